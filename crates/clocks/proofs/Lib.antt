@@ -1,0 +1,11 @@
+pub mod Lists
+pub mod Ticks
+pub mod Spots
+pub mod Walks
+pub mod Owns
+pub mod Main
+pub mod Resets
+pub mod Measures
+pub mod Saids
+pub mod Halves
+pub mod Counts

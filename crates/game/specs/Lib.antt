@@ -1,0 +1,3 @@
+pub mod Intervals
+pub mod Game
+pub mod Timed

@@ -1,0 +1,2 @@
+//! Tables of rows over any arena: definitions and the laws that hold of them.
+pub mod row;
