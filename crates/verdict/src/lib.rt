@@ -1,0 +1,2 @@
+//! From a text to the verdict on it.
+pub mod verdict;
