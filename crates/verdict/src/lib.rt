@@ -1,2 +1,4 @@
 //! From a text to the verdict on it.
+pub mod lines;
+pub mod refusal;
 pub mod verdict;
