@@ -1,0 +1,1 @@
+//! The check of a table with its ranks.
