@@ -25,15 +25,15 @@ module _ {P : Type 0} (m : Meaning P) (rows : List (Row P)) where
       record {
         few = few;
         first = λ b h.
-          let F : ℕ → Type 0 = λ t. NextIn m rows b (length rows) t in
-          subst F (sym (getD-replicate 1021 b (length rows) 0 h))
-          (record {
-            from = omega arith;
-            within = omega arith;
-            there = λ r e. absurd (omega (arith, nth-within rows (length rows) r e));
-            before = λ k r a c. absurd (omega arith)
-          });
-        next = λ k r a e. absurd (omega (arith, nth-within rows k r e))
+            let F : ℕ → Type 0 = λ t. NextIn m rows b (length rows) t in
+            subst F (sym (getD-replicate 1021 b (length rows) 0 h))
+            (record {
+              from = omega arith;
+              within = omega arith;
+              there = λ r e. absurd (omega (arith, nth-within rows (length rows) r e));
+              before = λ k r a c. absurd (omega arith);
+            });
+        next = λ k r a e. absurd (omega (arith, nth-within rows k r e));
       }
 
   -- row s, the first of its bucket so far, before another that was
@@ -44,10 +44,10 @@ module _ {P : Type 0} (m : Meaning P) (rows : List (Row P)) where
         within = n .within;
         there = n .there;
         before = λ k q a c h.
-          ⊎-elim
-          (λ (i : k ≡ s). let o : r ≡ q = some-same (sym e ∙ (rw (← i) h)) in λ f. ne (rw o f))
-          (λ (i : k ≡ s → ⊥). n .before k q (omega arith) c h)
-          (cases-eq k s)
+            ⊎-elim
+            (λ (i : k ≡ s). let o : r ≡ q = some-same (sym e ∙ (rw (← i) h)) in λ f. ne (rw o f))
+            (λ (i : k ≡ s → ⊥). n .before k q (omega arith) c h)
+            (cases-eq k s);
       }
 
   head : (s : ℕ) (r : Row P) → nth rows s ≡ Some r → NextIn m rows (bucketAt m r) s s
@@ -56,7 +56,7 @@ module _ {P : Type 0} (m : Meaning P) (rows : List (Row P)) where
         from = omega arith;
         within = omega (arith, nth-within rows s r e);
         there = λ q h. ap (bucketAt m) (some-same (sym h ∙ e));
-        before = λ k q a c. absurd (omega arith)
+        before = λ k q a c. absurd (omega arith);
       }
 
   enter : (s : ℕ) (r : Row P) (heads links : List ℕ) → nth rows s ≡ Some r → length heads ≡ 1021 → length links ≡ 1024 →
@@ -67,12 +67,12 @@ module _ {P : Type 0} (m : Meaning P) (rows : List (Row P)) where
       firsts b h =
           ⊎-elim
           (λ (i : b ≡ bucketAt m r).
-            let F : ℕ → Type 0 = λ b. NextIn m rows b s (getD (set heads (bucketAt m r) s) b 0) in
-            let G : ℕ → Type 0 = λ t. NextIn m rows (bucketAt m r) s t in
-            subst F (sym i) (subst G (sym (getD-set-same heads (bucketAt m r) s 0 (omega arith))) (head s r e)))
+          let F : ℕ → Type 0 = λ b. NextIn m rows b s (getD (set heads (bucketAt m r) s) b 0) in
+          let G : ℕ → Type 0 = λ t. NextIn m rows (bucketAt m r) s t in
+          subst F (sym i) (subst G (sym (getD-set-same heads (bucketAt m r) s 0 (omega arith))) (head s r e)))
           (λ (i : b ≡ bucketAt m r → ⊥).
-            let G : ℕ → Type 0 = λ t. NextIn m rows b s t in
-            subst G (sym (getD-set-other heads (bucketAt m r) b s 0 i)) (widen b s (getD heads b 0) r e (λ q. i (sym q)) (x .first b h)))
+          let G : ℕ → Type 0 = λ t. NextIn m rows b s t in
+          subst G (sym (getD-set-other heads (bucketAt m r) b s 0 i)) (widen b s (getD heads b 0) r e (λ q. i (sym q)) (x .first b h)))
           (cases-eq b (bucketAt m r))
 
       nexts : (k : ℕ) (q : Row P) → s ≤ k → nth rows k ≡ Some q → NextIn m rows (bucketAt m q) (suc k) (getD (set links s (getD heads (bucketAt m r) 0)) k 0)
@@ -82,14 +82,14 @@ module _ {P : Type 0} (m : Meaning P) (rows : List (Row P)) where
           let b : s < length links = omega (arith, nth-within rows s r e, x .few) in
           ⊎-elim
           (λ (i : k ≡ s).
-            let o : r ≡ q = some-same (sym e ∙ (rw (← i) h)) in
-            let F : Row P → Type 0 = λ q. NextIn m rows (bucketAt m q) (suc k) (getD (set links s t) k 0) in
-            let G : ℕ → Type 0 = λ k. NextIn m rows (bucketAt m r) (suc k) (getD (set links s t) k 0) in
-            let H : ℕ → Type 0 = λ u. NextIn m rows (bucketAt m r) (suc s) u in
-            subst F o (subst G (sym i) (subst H (sym (getD-set-same links s t 0 b)) (x .first (bucketAt m r) in′))))
+          let o : r ≡ q = some-same (sym e ∙ (rw (← i) h)) in
+          let F : Row P → Type 0 = λ q. NextIn m rows (bucketAt m q) (suc k) (getD (set links s t) k 0) in
+          let G : ℕ → Type 0 = λ k. NextIn m rows (bucketAt m r) (suc k) (getD (set links s t) k 0) in
+          let H : ℕ → Type 0 = λ u. NextIn m rows (bucketAt m r) (suc s) u in
+          subst F o (subst G (sym i) (subst H (sym (getD-set-same links s t 0 b)) (x .first (bucketAt m r) in′))))
           (λ (i : k ≡ s → ⊥).
-            let H : ℕ → Type 0 = λ u. NextIn m rows (bucketAt m q) (suc k) u in
-            subst H (sym (getD-set-other links s k t 0 i)) (x .next k q (omega arith) h))
+          let H : ℕ → Type 0 = λ u. NextIn m rows (bucketAt m q) (suc k) u in
+          subst H (sym (getD-set-other links s k t 0 i)) (x .next k q (omega arith) h))
           (cases-eq k s)
 
   -- with row n - 1 entered before those from n on
@@ -120,11 +120,11 @@ module _ {P : Type 0} (m : Meaning P) (ok : Lawful m) (rows : List (Row P)) (p :
         within = n .within;
         there = n .there;
         before = λ k r b e.
-          ⊎-elim
-          (λ (h : k < s). none k r h e)
-          (λ (h : s ≤ k).
+            ⊎-elim
+            (λ (h : k < s). none k r h e)
+            (λ (h : s ≤ k).
             ⊎-elim (λ (f : isFor m p l r ≡ true). absurd (n .before k r h b e (in-bucket r f))) (λ (f : isFor m p l r ≡ false). f) (cases-bool (isFor m p l r)))
-          (cases-lt k s)
+            (cases-lt k s);
       }
 
   -- from the first row of the bucket
@@ -138,10 +138,10 @@ module _ {P : Type 0} (m : Meaning P) (ok : Lawful m) (rows : List (Row P)) (p :
       let G : ℕ → Type 0 = λ b. NextIn m rows b (suc t) (getD links t 0) in
       on (suc t) (getD links t 0)
       (λ k q b i.
-        ⊎-elim
-        (λ (j : k ≡ t). let o : r ≡ q = some-same (sym e ∙ (rw (← j) i)) in rw (← o) h)
-        (λ (j : k ≡ t → ⊥). z .before k q (omega arith) i)
-        (cases-eq k t))
+      ⊎-elim
+      (λ (j : k ≡ t). let o : r ≡ q = some-same (sym e ∙ (rw (← j) i)) in rw (← o) h)
+      (λ (j : k ≡ t → ⊥). z .before k q (omega arith) i)
+      (cases-eq k t))
       (subst G (z .there r e) (x .next t r (omega arith) e))
 
   pub look-further : (heads links : List ℕ) (t : ℕ) (r : Row P) → Indexes m rows 0 heads links → nth rows t ≡ Some r → t < getD links t 0

@@ -32,20 +32,20 @@ fn is_for<A: Arena>(arena: &A, row: &Row<A::Position>, position: &A::Position, l
 /// Rows over their arena, in buckets: the first row of each bucket, and for each row the next one of its bucket. The
 /// number of rows stands for none.
 #[derive(Drop)]
-pub(crate) struct IndexedRows<'a, A: Arena> {
+pub(crate) struct IndexedRows<'a, 'r, A: Arena> {
     pub(crate) arena: &'a A,
-    pub(crate) rows: &'a [Row<A::Position>],
-    heads: [u16; BUCKETS],
-    links: [u16; MAX_ROWS],
+    pub(crate) rows: &'r [Row<A::Position>],
+    pub(crate) heads: [u16; BUCKETS],
+    pub(crate) links: [u16; MAX_ROWS],
 }
 
-impl<'a, A: Arena> IndexedRows<'a, A> {
+impl<'a, 'r, A: Arena> IndexedRows<'a, 'r, A> {
     /// These rows with their index.
-    pub(crate) fn new(arena: &'a A, rows: &'a [Row<A::Position>]) -> IndexedRows<'a, A>
+    pub(crate) fn new(arena: &'a A, rows: &'r [Row<A::Position>]) -> IndexedRows<'a, 'r, A>
         requires { ⌜ length (now rows) ≤ 1024 ⌝ }
         ensures arena { λ r. ⌜ now (r .arena) ≡ now (arena .entry) ⌝ }
         ensures rows { λ r. ⌜ now (r .rows) ≡ now (rows .entry) ⌝ }
-        ensures index { λ r. ⌜ Indexes (A·Arena .meaning (now (arena .entry))) (now (rows .entry)) 0 (r .heads) (r .links) ⌝ }
+        ensures index { λ r. ⌜ Indexes (A·Arena .meaning (now (r .arena))) (now (r .rows)) 0 (r .heads) (r .links) ⌝ }
     {
         let mut heads = [rows.len() as u16; BUCKETS];
         let mut links = [0; MAX_ROWS];
@@ -55,7 +55,12 @@ impl<'a, A: Arena> IndexedRows<'a, A> {
             links[s] = heads[bucket];
             heads[bucket] = s as u16;
         }
-        IndexedRows { arena, rows, heads, links }
+        IndexedRows {
+            arena,
+            rows,
+            heads,
+            links,
+        }
     }
 
     /// The number of the first row with this position and latch.

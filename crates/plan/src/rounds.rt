@@ -24,5 +24,9 @@ pub fn latch_after<A: Arena>(arena: &A, latch: u8, outcome: &Outcome<A::Position
     ensures { λ r. ⌜ r ≡ latchAfter (A·Arena .meaning (now (arena .entry))) latch (now (outcome .entry)) ⌝ }
 {
     let priority = arena.priority(&outcome.position);
-    if outcome.ticked { priority } else { latch.max(priority) }
+    if outcome.ticked {
+        priority
+    } else {
+        latch.max(priority)
+    }
 }

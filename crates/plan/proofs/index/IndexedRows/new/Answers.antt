@@ -19,10 +19,11 @@ loop-s-again g c =
     let n = c .loop-s .s in
     let r = c .index-rows-s .result in
     let inv = c .loop-s .inv in
-    let e = nth-read rows (length rows) (n - 1) r refl (omega arith) (c .index-rows-s .is) in
-    (index-more m rows n (c .bucket-of-bucket .result) r (c .loop-s .heads) (c .loop-s .links) (omega arith) e (c .bucket-of-bucket .ensures) (inv .1) (inv .2) (inv .0),
-    length-set _ _ _ ∙ inv .1,
-    length-set _ _ _ ∙ inv .2)
+    let e = nth-read rows (length rows) (n - 1) r refl (omega arith) (c .index-rows-s .is) in (
+      index-more m rows n (c .bucket-of-bucket .result) r (c .loop-s .heads) (c .loop-s .links) (omega arith) e (c .bucket-of-bucket .ensures) (inv .1) (inv .2) (inv .0),
+      length-set _ _ _ ∙ inv .1,
+      length-set _ _ _ ∙ inv .2,
+    )
 
 pub returns : need.returns
 returns g c =

@@ -12,7 +12,7 @@ returns-then-is-for g c =
     let r = getD (s .rows .now) (c .loop-at .at) (c .index-self-at .result) in
     let e = nth-getD (s .rows .now) (c .loop-at .at) (c .index-self-at .result) (omega arith) in
     sym (look-found (g .A·Arena .meaning (s .arena .now)) (g .A·Arena·met .lawful (s .arena .now)) (s .rows .now) (c .args .position .now) (c .args .latch)
-      (c .loop-at .at) r e (sym (c .if-is-for .ensures tt)) (c .loop-at .inv))
+    (c .loop-at .at) r e (sym (c .if-is-for .ensures tt)) (c .loop-at .inv))
 
 pub loop-at-holds : need.loop-at-holds
 loop-at-holds g c =
@@ -28,7 +28,7 @@ loop-at-less g c =
     let r = getD (s .rows .now) (c .loop-at .at) (c .index-self-at .result) in
     let e = nth-getD (s .rows .now) (c .loop-at .at) (c .index-self-at .result) (omega arith) in
     let further : c .loop-at .at < getD (s .links) (c .loop-at .at) 0 =
-        look-further (g .A·Arena .meaning (s .arena .now)) (g .A·Arena·met .lawful (s .arena .now)) (s .rows .now) (c .args .position .now) (c .args .latch) (s .heads) (s .links) (c .loop-at .at) r (c .pre) e in
+    look-further (g .A·Arena .meaning (s .arena .now)) (g .A·Arena·met .lawful (s .arena .now)) (s .rows .now) (c .args .position .now) (c .args .latch) (s .heads) (s .links) (c .loop-at .at) r (c .pre) e in
     omega arith
 
 pub loop-at-again : need.loop-at-again
@@ -37,7 +37,7 @@ loop-at-again g c =
     let r = getD (s .rows .now) (c .loop-at .at) (c .index-self-at .result) in
     let e = nth-getD (s .rows .now) (c .loop-at .at) (c .index-self-at .result) (omega arith) in
     look-more (g .A·Arena .meaning (s .arena .now)) (g .A·Arena·met .lawful (s .arena .now)) (s .rows .now) (c .args .position .now) (c .args .latch) (s .heads) (s .links)
-      (c .loop-at .at) r (c .pre) e (sym (c .if-is-for .ensures tt)) (c .loop-at .inv)
+    (c .loop-at .at) r (c .pre) e (sym (c .if-is-for .ensures tt)) (c .loop-at .inv)
 
 pub returns : need.returns
 returns g c =
