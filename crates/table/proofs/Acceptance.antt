@@ -22,7 +22,7 @@ use Rattle.table.specs.declared.fault.Fault.the-variants.{TooManyRows, NotOwn,
 use Rattle.table.specs.Colours.{colourOf, latchAfter}
 use Rattle.table.specs.Rows.{StandsAt, firstRow, startRow, rowAfter, outcomesOf}
 use Rattle.table.specs.Ranks.{rankOf, keepsFor, keeps}
-use Rattle.table.specs.Check.{when, numbered, verdict, isBefore, isOwn, placeFaults, targetFaults, outcomeFaults, moveFaults, faults, checked}
+use Rattle.table.specs.Check.{when, numbered, verdict, isBefore, isOwn, placeFaults, startFaults, targetFaults, outcomeFaults, moveFaults, faults, checked}
 use Rattle.table.specs.Accepts.{Accepts}
 use Rattle.table.proofs.Lists.{none-some, some-same, cons-nil, append-nil, when-nil, numbered-nil, numbered-all}
 use Rattle.table.proofs.Finds.{fits-stands, stands-fits, first-stands, stands-first}
@@ -101,7 +101,7 @@ module _ {P : Type 0} (m : Meaning P) (rows : List (Row P)) (rule : ℕ → ℕ 
       let a = append-nil (when (ltb 1024 (length rows)) TooManyRows) _ e in
       let b = append-nil (when (not (eqb given (4 * length rows))) WrongLengths) _ (a .1) in
       let c = append-nil (numbered (placeFaults m rows) 0 rows) _ (b .1) in
-      let d = append-nil (when (not (isSome (startRow m rows))) NoStartRow) _ (c .1) in
+      let d = append-nil (startFaults m rows) _ (c .1) in
       record { few = when-nil _ _ (a .0); four = when-nil _ _ (b .0); places = c .0; first = when-nil _ _ (d .0); moves = d .1 }
 
   faultless : Clean m rows rule given → faults m rows rule given ≡ []
