@@ -1,1 +1,4 @@
-pub mod Examples
+pub mod Faults
+pub mod Layouts
+pub mod Numbers
+pub mod Splits
