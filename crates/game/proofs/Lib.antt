@@ -3,3 +3,5 @@ pub mod Sounds
 pub mod Owning
 pub mod Rises
 pub mod Outcomes
+pub mod Laws
+pub mod Lawfuls
