@@ -5,3 +5,4 @@ pub mod Rises
 pub mod Outcomes
 pub mod Laws
 pub mod Lawfuls
+pub mod Readings
