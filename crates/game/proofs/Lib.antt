@@ -6,3 +6,6 @@ pub mod Outcomes
 pub mod Laws
 pub mod Lawfuls
 pub mod Readings
+pub mod Absents
+pub mod Shorts
+pub mod Starts
