@@ -139,11 +139,11 @@ module _ (g : Game) where
         let w : Own r = own-from r (b .0) in
         all-outcomes g l r k e (λ o. (owns g (o .position) ≡ true) × (map (λ p. p .ceiling) (o .position .region) ≡ limits g))
         (λ q v.
-            let i : Some q ≡ Some (a .reached) = sym v ∙ a .waited in
-            let j : q ≡ a .reached = cc in (
-              result-own Us l q e (kept-stand k r q w v) (four k q v) (ap (keeps g l) j ∙ a .kept) (ap (λ q. mayTake g Us l q e) j ∙ a .taken),
-              carried-ceilings (resetsOf (edgeAt g e)) q ∙ waits-ceilings k r q v ∙ c,
-            ))
+        let i : Some q ≡ Some (a .reached) = sym v ∙ a .waited in
+        let j : q ≡ a .reached = cc in (
+          result-own Us l q e (kept-stand k r q w v) (four k q v) (ap (keeps g l) j ∙ a .kept) (ap (λ q. mayTake g Us l q e) j ∙ a .taken),
+          carried-ceilings (resetsOf (edgeAt g e)) q ∙ waits-ceilings k r q v ∙ c,
+        ))
         (λ j n q v f t. (
           result-own Them l q f (kept-stand j r q w v) (four j q v) (keeps-between g l r q (a .reached) j k n v (a .waited) (b .2) (a .kept)) t,
           carried-ceilings (resetsOf (edgeAt g f)) q ∙ waits-ceilings j r q v ∙ c,

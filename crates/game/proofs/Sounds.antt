@@ -10,7 +10,7 @@ use Rattle.std.specs.declared.option.Option.{Option}
 use Rattle.std.specs.declared.option.Option.the-variants.{Some, None}
 use Rattle.std.specs.Finite.{nth}
 use Rattle.std.specs.shelf.Lists.{All}
-use Rattle.std.proofs.shelf.Tests.{and-parts, leb-true}
+use Rattle.std.proofs.shelf.Tests.{and-parts, leb-true, le-leb}
 use Rattle.std.proofs.shelf.Ways.{tells}
 use Rattle.regions.specs.Code.{every, ceiled, tickCeiling}
 use Rattle.game.specs.declared.parts.Edge.{Edge}
@@ -60,6 +60,10 @@ made g h =
       few-edges = leb-true (length (g .edges)) 64 (x .0);
       edges-sound = x .1;
     }
+
+pub made-back : (g : Game) → Made g → wellMade g ≡ true
+made-back g m =
+    rw (m .low, m .ordered, le-leb (length (g .locations)) 32 (m .few-locations), m .locations-sound, le-leb (length (g .edges)) 64 (m .few-edges)) (m .edges-sound)
 
 module _ (g : Game) (s : sound g ≡ true) where
   pub sound-parts : (wellMade g ≡ true) × (owns g (start g) ≡ true)

@@ -17,10 +17,10 @@ use Rattle.game.specs.declared.bounds.Bound.{Bound}
 use Rattle.game.specs.declared.bounds.Bounds.{Bounds}
 use Rattle.game.specs.declared.parts.Location.{Location}
 use Rattle.game.specs.Intervals.{reaches, unending, everywhere, fitting, meetsLow, meetsHigh, meets}
-use Rattle.game.specs.Game.{Game, invariantOf, fresh, owns, start, soundLocation, suits}
+use Rattle.game.specs.Game.{Game, invariantOf, fresh, owns, start, soundLocation, suits, sound}
 use Rattle.game.specs.Start.{wellMade, fromZero, startsAtZero}
 use Rattle.game.specs.Theorems.{Starts}
-use Rattle.game.proofs.Sounds.{made, sound-start}
+use Rattle.game.proofs.Sounds.{Made, made, made-back, sound-start}
 use Rattle.game.proofs.Readings.{suits-parts, fitting-parts}
 
 fresh-within : (c : ℕ) → within (fresh c) ≡ true
@@ -86,3 +86,7 @@ starts g = sound-start g ∙ elim (cases-bool (wellMade g)) [
   | inl t ↦ ap (λ b. wellMade g && b) (owns-start g t)
   | inr t ↦ rw t
 ]
+
+-- for a game that is put together from its parts
+pub sound-at-zero : (g : Game) → Made g → sound g ≡ startsAtZero (g .locations)
+sound-at-zero g m = starts g ∙ ap (λ b. b && startsAtZero (g .locations)) (made-back g m)

@@ -37,4 +37,4 @@ StayAbsent =
     (g : Game) → sound g ≡ true
     → All AbsentPast (start g .region)
     × ((l : ℕ) (r : List Part) (k : ℕ) (e : Option ℕ) → map (λ p. p .ceiling) r ≡ limits g → All AbsentPast r
-        → All (λ o. All AbsentPast (o .position .region)) (outcomes g (place l r) k e))
+    → All (λ o. All AbsentPast (o .position .region)) (outcomes g (place l r) k e))
