@@ -1,4 +1,5 @@
 pub mod Faults
 pub mod Layouts
 pub mod Numbers
+pub mod Sounds
 pub mod Splits
