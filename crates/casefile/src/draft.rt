@@ -18,6 +18,14 @@ pub(crate) struct Draft {
     pub(crate) ranks: Vec<Ranks>,
     /// Where all ranks go at last, colour by colour; empty until then.
     pub(crate) columns: Vec<u16>,
-    ghost room: { (3 ≤ vec-cap ceilings) × (32 ≤ vec-cap locations) × (64 ≤ vec-cap edges) × (1024 ≤ vec-cap rows) × (1024 ≤ vec-cap ranks) × (4096 ≤ vec-cap columns) },
-    ghost level: { (vec-len ranks ≡ vec-len rows) × (vec-len columns ≡ 0) },
+    ghost clock_room: { 3 ≤ vec-cap ceilings },
+    ghost location_room: { 32 ≤ vec-cap locations },
+    ghost edge_room: { 64 ≤ vec-cap edges },
+    ghost row_room: { 1024 ≤ vec-cap rows },
+    ghost rank_room: { 1024 ≤ vec-cap ranks },
+    ghost column_room: { 4096 ≤ vec-cap columns },
+    ghost few_clocks: { vec-len ceilings ≤ 3 },
+    ghost few_rows: { vec-len rows ≤ 1024 },
+    ghost level: { vec-len ranks ≡ vec-len rows },
+    ghost unfilled: { vec-len columns ≡ 0 },
 }

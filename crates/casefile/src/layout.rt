@@ -2,7 +2,7 @@
 ghost use mathlib.Core.Path.{_≡_};
 ghost use Prim.Native.Nat.{_<_, _≤_, _+_, _*_};
 ghost use lib.ListN.{length, getD};
-ghost use Rattle.casetext.specs.declared.line.Form.the-variants.{Owner};
+ghost use Rattle.casetext.specs.declared.line.Form.the-variants.{Owner, Number};
 ghost use Rattle.casetext.specs.Lines.{outOfPlace, forms, edgeForms, rowForms};
 ghost use Rattle.casefile.specs.Draft.{said};
 use crate::draft::Draft;
@@ -65,25 +65,27 @@ fn edge_form(locations: usize, ceilings: &[u8], i: usize) -> Form
     }
 }
 
+fn up_to(high: u16) -> Form
+    ensures { λ r. ⌜ r ≡ Number 0 high ⌝ }
+{
+    Form::Number { low: 0, high }
+}
+
 /// What the i-th field of a row must be.
 fn row_form(ceilings: &[u8], i: usize) -> Form
-    requires { ⌜ i < length (rowForms (now ceilings)) ⌝ }
+    requires { ⌜ length (now ceilings) ≤ 3 ⌝ ∗ ⌜ i < length (rowForms (now ceilings)) ⌝ }
     ensures { λ r. ⌜ r ≡ getD (rowForms (now (ceilings .entry))) i Owner ⌝ }
 {
-    let high = if i == 0 {
-        MAX_LOCATION
-    } else if i == 1 {
-        MAX_PRIORITY
-    } else if i < 4 + 2 * ceilings.len() {
-        if i % 2 == 0 { MAX_WHOLE } else { MAX_CLASS }
-    } else if i == 4 + 2 * ceilings.len() {
-        MAX_STEPS
-    } else if i == 5 + 2 * ceilings.len() {
-        return Form::Choice;
-    } else {
-        MAX_RANK
-    };
-    Form::Number { low: 0, high }
+    let steps = 4 + 2 * ceilings.len();
+    match i {
+        0 => up_to(MAX_LOCATION),
+        1 => up_to(MAX_PRIORITY),
+        _ if i < steps && i % 2 == 0 => up_to(MAX_WHOLE),
+        _ if i < steps => up_to(MAX_CLASS),
+        _ if i == steps => up_to(MAX_STEPS),
+        _ if i == steps + 1 => Form::Choice,
+        _ => up_to(MAX_RANK),
+    }
 }
 
 /// What the i-th field, from 0, of a line of this kind must be.
@@ -102,10 +104,7 @@ pub(crate) fn form_at(draft: &Draft, kind: Kind, i: usize) -> Form
             low: 1,
             high: MAX_CEILING,
         },
-        Kind::Loc if i == 1 => Form::Number {
-            low: 0,
-            high: MAX_PRIORITY,
-        },
+        Kind::Loc if i == 1 => up_to(MAX_PRIORITY),
         Kind::Loc => Form::Interval {
             ceiling: ceilings[i - 2],
         },

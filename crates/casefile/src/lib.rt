@@ -3,7 +3,8 @@ mod draft;
 mod fields;
 mod form;
 mod interval;
-
+mod item;
 mod layout;
 mod limits;
+pub mod room;
 mod text;

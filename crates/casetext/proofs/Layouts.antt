@@ -5,13 +5,13 @@ use mathlib.Core.List.{List, [], _∷_, _++_, map}
 use Prim.Native.Nat.{ℕ, zero, suc, _+_, _-_, _*_, _%_, _≤_, _<_}
 use native.Mathlib.Omega.{arith}
 use lib.Dec.{eqb}
-use lib.ListN.{length, getD}
-use Rattle.std.proofs.shelf.Lists.{length-map, length-append, getD-append-right, getD-map}
+use lib.ListN.{length, getD, replicate}
+use Rattle.std.proofs.shelf.Lists.{length-map, length-append, getD-append-right, getD-map, getD-replicate}
 use Rattle.casetext.specs.declared.line.Form.{Form}
-use Rattle.casetext.specs.declared.line.Form.the-variants.{Number, Interval}
+use Rattle.casetext.specs.declared.line.Form.the-variants.{Number, Interval, Choice}
 use Rattle.casetext.specs.declared.line.Kind.the-variants.{Loc, Edge, Row}
 use Rattle.casetext.specs.Fields.{maxLocation}
-use Rattle.casetext.specs.Items.{maxPriority, maxWhole, maxClass}
+use Rattle.casetext.specs.Items.{maxPriority, maxWhole, maxClass, maxSteps, maxRank}
 use Rattle.casetext.specs.Lines.{Said, standings, rowForms, rowEnd, forms}
 
 length-standings : (cs : List ℕ) → length (standings cs) ≡ 2 * length cs + 2
@@ -26,8 +26,11 @@ length-loc s = simp length-map (omega arith)
 pub length-edge : (s : Said) → length (forms s Edge) ≡ 5 + length (s .ceilings)
 length-edge s = simp length-map (omega arith)
 
+length-row-forms : (cs : List ℕ) → length (rowForms cs) ≡ 10 + 2 * length cs
+length-row-forms cs = simp length-append (omega (arith, length-standings cs))
+
 pub length-row : (s : Said) → length (forms s Row) ≡ 11 + 2 * length (s .ceilings)
-length-row s = simp length-append (omega (arith, length-standings (s .ceilings)))
+length-row s = omega (arith, length-row-forms (s .ceilings))
 
 -- an interval for each clock, after n other fields
 pub interval-at : (pre : List Form) (cs : List ℕ) (n i : ℕ) (d : Form) → length pre ≡ n → n ≤ i → i < n + length cs → getD (pre ++ map Interval cs) i d ≡ Interval (getD cs (i - n) 0)
@@ -52,9 +55,21 @@ module _ (cs : List ℕ) (i : ℕ) (d : Form) where
       ∙ standing-at cs rowEnd (i - 2) d (omega arith)
       ∙ ap (λ k. cond (eqb k 0) (Number 0 maxWhole) (Number 0 maxClass)) same
 
-  pub row-end : 4 + 2 * length cs ≤ i → getD (rowForms cs) i d ≡ getD rowEnd (i - (4 + 2 * length cs)) d
+  row-end : 4 + 2 * length cs ≤ i → getD (rowForms cs) i d ≡ getD rowEnd (i - (4 + 2 * length cs)) d
   row-end low =
       let same : i - 2 - (2 * length cs + 2) ≡ i - (4 + 2 * length cs) = omega arith in
       getD-append-right (Number 0 maxLocation ∷ Number 0 maxPriority ∷ []) (standings cs ++ rowEnd) 2 i d refl (omega arith)
       ∙ getD-append-right (standings cs) rowEnd (2 * length cs + 2) (i - 2) d (length-standings cs) (omega arith)
       ∙ ap (λ k. getD rowEnd k d) same
+
+  -- the k-th of the fields after the clocks
+  pub row-end-at : (k : ℕ) → i ≡ 4 + 2 * length cs + k → getD (rowForms cs) i d ≡ getD rowEnd k d
+  row-end-at k e =
+      let same : i - (4 + 2 * length cs) ≡ k = omega arith in
+      row-end (omega arith) ∙ ap (λ n. getD rowEnd n d) same
+
+  pub row-rank : 6 + 2 * length cs ≤ i → i < length (rowForms cs) → getD (rowForms cs) i d ≡ Number 0 maxRank
+  row-rank low high =
+      let k = i - (4 + 2 * length cs) in
+      row-end (omega arith) ∙ getD-append-right (Number 0 maxSteps ∷ Choice ∷ []) (replicate 4 (Number 0 maxRank)) 2 k d refl (omega arith)
+      ∙ getD-replicate 4 (k - 2) (Number 0 maxRank) d (omega (arith, length-row-forms cs))

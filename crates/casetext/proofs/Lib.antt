@@ -3,3 +3,4 @@ pub mod Layouts
 pub mod Numbers
 pub mod Sounds
 pub mod Splits
+pub mod Words
