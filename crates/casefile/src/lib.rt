@@ -1,4 +1,5 @@
 //! Reads the text of a case.
+mod columns;
 mod draft;
 mod fields;
 mod form;
@@ -6,5 +7,6 @@ mod interval;
 mod item;
 mod layout;
 mod limits;
+mod lines;
 pub mod room;
 mod text;

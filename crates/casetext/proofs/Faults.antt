@@ -1,6 +1,6 @@
 -- The least fault of a line, field by field.
 use mathlib.Core.Path.{_≡_, refl, sym, ap, _∙_}
-use mathlib.Core.Bool.{Bool, true, false, cond}
+use mathlib.Core.Bool.{Bool, true, false, cond, not}
 use mathlib.Core.List.{List, [], _∷_, _++_}
 use mathlib.Core.Logic.{inl, inr}
 use Prim.Native.Nat.{ℕ, zero, suc, _+_, _≤_, _<_}
@@ -10,12 +10,14 @@ use lib.ListN.{length, getD, drop}
 use Rattle.std.specs.declared.option.Option.{Option}
 use Rattle.std.specs.declared.option.Option.the-variants.{Some, None}
 use Rattle.std.proofs.shelf.Lists.{drop-more, drop-all}
-use Rattle.std.proofs.shelf.Tests.{cases-bool, eqb-true, cond-true, cond-false, eq-eqb}
+use Rattle.std.proofs.shelf.Tests.{cases-bool, eqb-true, cond-true, cond-false, eq-eqb, not-true}
 use Rattle.std.proofs.shelf.Ways.{tells}
 use Rattle.casetext.specs.declared.fault.TextFault.{TextFault}
 use Rattle.casetext.specs.declared.line.Form.{Form}
-use Rattle.casetext.specs.Fields.{wrong}
-use Rattle.casetext.specs.Lines.{lesser, wrongs, lineFault}
+use Rattle.casetext.specs.declared.line.Form.the-variants.{Owner}
+use Rattle.casetext.specs.declared.line.Kind.{Kind}
+use Rattle.casetext.specs.Fields.{unless, wrong}
+use Rattle.casetext.specs.Lines.{Said, outOfPlace, forms, lesser, wrongs, lineFault}
 
 lesser-assoc : (a b c : Option TextFault) → lesser (lesser a b) c ≡ lesser a (lesser b c)
 lesser-assoc None b c = refl
@@ -75,3 +77,10 @@ pub fine-drop : (pre ms : List Form) (fs : List (List ℕ)) → Fine (pre ++ ms)
 fine-drop [] ms fs h = h
 fine-drop (m ∷ pre) ms [] h = absurd h
 fine-drop (m ∷ pre) ms (f ∷ fs) h = fine-drop pre ms fs (h .1)
+
+pub passing : (b : Bool) (fault : TextFault) → unless b fault ≡ None → b ≡ true
+passing b fault e = grind (arith, tells)
+
+-- a line without faults is in its place
+pub in-place : (s : Said) (k : Kind) (fs : List (List ℕ)) → Fine (forms s k) fs → outOfPlace s k ≡ false
+in-place s k fs h = let p = fine-at (forms s k) fs 0 Owner h (omega arith) in not-true (outOfPlace s k) (passing (not (outOfPlace s k)) _ (p .1 .1))

@@ -18,7 +18,7 @@ use Rattle.std.specs.declared.result.Result.the-variants.{Ok, Err}
 use Rattle.std.proofs.shelf.Elements.{all-push, all-getD, all-append, all-map, all-weaker}
 use Rattle.std.proofs.shelf.Equals.{sameBytes-decides}
 use Rattle.std.proofs.shelf.Lists.{length-push, length-map, length-append, length-drop, getD-drop, getD-past}
-use Rattle.std.proofs.shelf.Tests.{cases-bool, cond-true, cond-false, cond-both, eq-eqb, eqb-true, ne-eqb, and-parts, and-from, or-left, or-right, not-true, not-from-false, cases-lt, lt-ltb, le-leb}
+use Rattle.std.proofs.shelf.Tests.{cases-bool, cond-true, cond-false, cond-both, eq-eqb, eqb-true, ne-eqb, and-parts, and-from, or-left, or-right, not-from-false, cases-lt, lt-ltb, le-leb}
 use Rattle.std.proofs.shelf.Ways.{tells}
 use Rattle.regions.specs.Code.{every, within, isOwn}
 use Rattle.game.specs.declared.bounds.Bounds.{Bounds}
@@ -43,13 +43,10 @@ use Rattle.casetext.specs.Items.{location, edge, ranks, value, everything, bou
 use Rattle.casetext.specs.Lines.{Said, some, outOfPlace, kind, forms, lineFault, maxClocks, maxLocations, maxEdges, maxRows}
 use Rattle.casetext.specs.Case.{rankOf, column, rankList, maxText, Contents, nothing, added, unlessFault, readFields, readLine, readLines, ceilingsOf, gameOf, starts, contents, finished, concluded, readText}
 use Rattle.casetext.specs.Sound.{Sound, RowInRange, ClockInRange}
-use Rattle.casetext.proofs.Faults.{Passes, Fine, fine, fine-at, fine-drop, faultless-length}
+use Rattle.casetext.proofs.Faults.{Passes, Fine, passing, in-place, fine, fine-at, fine-drop, faultless-length}
 use Rattle.casetext.proofs.Layouts.{length-loc, length-edge}
 
 -- What a field says with which nothing is wrong
-
-passing : (b : Bool) (fault : TextFault) → unless b fault ≡ None → b ≡ true
-passing b fault e = grind (arith, tells)
 
 -- a number up to a limit
 value-up : (limit : ℕ) (f : List ℕ) → value limit f ≤ limit
@@ -177,20 +174,14 @@ none : {X : Type 0} (xs : List X) → some xs ≡ false → xs ≡ []
 none [] e = refl
 none (x ∷ xs) e = absurd (grind arith)
 
-in-place : (late : Bool) (f : List ℕ) → Passes (Head late) f → late ≡ false
-in-place late f (n, (i, e)) = not-true late (passing (not late) _ e)
-
 module _ (s : Said) (o : InOrder s) (fs : List (List ℕ)) where
-  on-time : (k : Kind) → Fine (forms s k) fs → outOfPlace s k ≡ false
-  on-time k h = in-place (outOfPlace s k) (getD fs 0 []) (fine-at (forms s k) fs 0 Owner h (omega arith))
-
   -- what follows k fields
   rest-length : (m : ℕ) → length fs ≡ m + length (s .ceilings) → length (drop m fs) ≡ length (s .ceilings)
   rest-length m e = simp length-drop (omega arith)
 
   clock-step : Fine (forms s Clock) fs → InOrder (added s Clock fs)
   clock-step h =
-      let t = on-time Clock h in
+      let t = in-place s Clock fs h in
       let cs = added s Clock fs .ceilings in
       let n = length (s .locations) in
       let l = none (s .locations) (grind arith) in
@@ -211,7 +202,7 @@ module _ (s : Said) (o : InOrder s) (fs : List (List ℕ)) where
 
   loc-step : length fs ≡ length (forms s Loc) → Fine (forms s Loc) fs → InOrder (added s Loc fs)
   loc-step long h =
-      let t = on-time Loc h in
+      let t = in-place s Loc fs h in
       let cs = s .ceilings in
       let n = length (added s Loc fs .locations) in
       let e = none (s .edges) (grind arith) in
@@ -234,7 +225,7 @@ module _ (s : Said) (o : InOrder s) (fs : List (List ℕ)) where
   edge-step : length fs ≡ length (forms s Edge) → Fine (forms s Edge) fs → InOrder (added s Edge fs)
   edge-step long h =
       let n = length (s .locations) in
-      let t = on-time Edge h in
+      let t = in-place s Edge fs h in
       let few : length (s .edges) < maxEdges = grind (arith, tells) in
       let at = λ (i : ℕ) (l : i < length (forms s Edge)). fine-at (forms s Edge) fs i Owner h l in
       let fit = zone-suits (s .ceilings) 5 fs (o .ceilings) (rest-length 5 (long ∙ length-edge s)) (fine-drop (Head (outOfPlace s Edge) ∷ Owner ∷ End n ∷ End n ∷ Letters (length (s .ceilings)) ∷ []) (map Interval (s .ceilings)) fs h) in
@@ -257,7 +248,7 @@ module _ (s : Said) (o : InOrder s) (fs : List (List ℕ)) where
 
   row-step : Fine (forms s Row) fs → InOrder (added s Row fs)
   row-step h =
-      let t = on-time Row h in
+      let t = in-place s Row fs h in
       let few : length (s .rows) < maxRows = grind (arith, tells) in
       record {
         few-clocks = o .few-clocks;

@@ -4,7 +4,7 @@ use mathlib.Core.Bool.{Bool, true, false, cond}
 use mathlib.Core.List.{List, [], _∷_, _++_, append-nil, append-assoc, map}
 use Prim.Native.Nat.{ℕ, suc, _+_, _-_, _*_, _≤_, _<_}
 use native.Mathlib.Omega.{arith}
-use lib.Dec.{eqb, lit<}
+use lib.Dec.{eqb, lit<, lit≤}
 use denote.Ref.{RefT, now}
 use lib.ListN.{length, getD, drop, take}
 use Rattle.std.specs.Options.{valueOr}
@@ -69,6 +69,10 @@ behind-shorter sep (b ∷ bs) q e =
       | true ↦ λ e. let same : bs ≡ q = cc in omega (arith, ap length same)
       | false ↦ λ e. omega (arith, behind-shorter sep bs q e)
     ] e
+
+pub before-short : (sep : ℕ) (bs : List ℕ) → length (before sep bs) ≤ length bs
+before-short sep [] = lit≤ tt
+before-short sep (b ∷ bs) = cond-both (eqb b sep) _ _ (λ x. length x ≤ length (b ∷ bs)) (λ _. omega arith) (λ _. omega (arith, before-short sep bs))
 
 -- a last line may lack its line feed
 last-line : (sep b : ℕ) (bs : List ℕ) → behind sep (b ∷ bs) ≡ None → parted sep [] (b ∷ bs) ≡ before sep (b ∷ bs) ∷ []
