@@ -1,7 +1,6 @@
 //! From region to region.
 use super::Clocks;
 use crate::region::Ceilings;
-use crate::region::HIGHEST_CEILING;
 use crate::region::Region;
 use crate::region::Restart;
 use crate::region::TICK_CEILING;
@@ -11,14 +10,8 @@ ghost use lib.Dec.{ltb};
 ghost use Rattle.std.specs.Options.{mapped};
 ghost use Rattle.std.specs.declared.option.Option.the-variants.{Some, None};
 ghost use Rattle.clocks.specs.Regions.{some, resting, rising, ranked, zeroed, next, waits};
-ghost use Rattle.regions.specs.Code.{parts, flags, proper, isOwn, ceiled, Smalls};
+ghost use Rattle.regions.specs.Code.{parts, flags, proper, isOwn, Smalls};
 ghost use Rattle.regions.specs.Standing.{standing, fields};
-
-fn is_ceiled(c: Ceilings) -> bool
-    ensures { λ r. ⌜ r ≡ ceiled c ⌝ }
-{
-    c.x <= HIGHEST_CEILING && c.y <= HIGHEST_CEILING && c.z <= HIGHEST_CEILING
-}
 
 /// Whether whole parts and classes are those of a region of clocks with these ceilings.
 fn is_own(c: Ceilings, region: Region) -> bool
@@ -37,7 +30,7 @@ impl Clocks {
     pub fn new(ceilings: Ceilings, region: Region) -> Option<Clocks>
         ensures { λ r. ⌜ mapped fields r ≡ cond (proper ceilings region) (Some (ceilings, region)) None ⌝ }
     {
-        if is_ceiled(ceilings) && is_own(ceilings, region) {
+        if ceilings.are_allowed() && is_own(ceilings, region) {
             Some(Clocks { ceilings, region })
         } else {
             None
