@@ -1,13 +1,15 @@
 //! Reads intervals.
 ghost use mathlib.Core.Path.{_≡_};
 ghost use mathlib.Core.Bool.{_&&_};
-ghost use Rattle.game.specs.Intervals.{reaches, upTo, inhabited, bounded};
+ghost use Rattle.game.specs.Intervals.{inhabited, bounded};
 ghost use Rattle.casetext.specs.Fields.{bracket, bound, upper, interval};
 use crate::limits::MAX_BOUND;
 use crate::text::cut;
 use crate::text::read_number;
 use game::bounds::Bound;
 use game::bounds::Bounds;
+use intervals::rows::is_bounded;
+use intervals::rows::is_inhabited;
 
 /// Whether a bracket is round.
 fn is_round(b: u8, square: u8, round: u8) -> Option<bool>
@@ -55,30 +57,9 @@ pub(crate) fn read_interval(field: &[u8]) -> Option<Bounds>
     Some(Bounds { low, high })
 }
 
-/// Some reading lies between the bounds.
-fn is_inhabited(low: Bound, high: Option<Bound>) -> bool
-    ensures { λ r. ⌜ r ≡ reaches low high ⌝ }
-{
-    match high {
-        None => true,
-        Some(high) => low.at < high.at || (low.at == high.at && !low.open && !high.open),
-    }
-}
-
-fn is_bounded(ceiling: u8, high: Option<Bound>) -> bool
-    ensures { λ r. ⌜ r ≡ upTo ceiling high ⌝ }
-{
-    match high {
-        None => true,
-        Some(high) => high.at <= ceiling,
-    }
-}
-
 /// The interval contains a reading, and no bound is above the ceiling.
 pub(crate) fn fits_clock(bounds: Bounds, ceiling: u8) -> bool
     ensures { λ r. ⌜ r ≡ (inhabited bounds && bounded ceiling bounds) ⌝ }
 {
-    is_inhabited(bounds.low, bounds.high)
-        && bounds.low.at <= ceiling
-        && is_bounded(ceiling, bounds.high)
+    is_inhabited(bounds) && is_bounded(bounds, ceiling)
 }

@@ -13,6 +13,7 @@ use crate::limits::MAX_PRIORITY;
 use crate::limits::MAX_RANK;
 use crate::limits::MAX_STEPS;
 use crate::limits::MAX_WHOLE;
+use crate::text::byte_at;
 use crate::text::read_number;
 use crate::text::value_of;
 use arena::moves::Move;
@@ -79,7 +80,7 @@ fn side_of(field: &[u8]) -> Side
 fn resets_at(letters: &[u8], i: usize) -> bool
     ensures { λ r. ⌜ r ≡ resetAt i (now (letters .entry)) ⌝ }
 {
-    i < letters.len() && letters[i] == b'r'
+    byte_at(letters, i) == b'r'
 }
 
 fn resets_of(letters: &[u8]) -> Resets

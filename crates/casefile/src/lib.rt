@@ -1,4 +1,5 @@
 //! Reads the text of a case.
+pub mod case;
 mod columns;
 mod draft;
 mod fields;
@@ -8,5 +9,6 @@ mod item;
 mod layout;
 mod limits;
 mod lines;
+pub mod reader;
 pub mod room;
 mod text;

@@ -1,6 +1,7 @@
 //! Parts a text, and reads the numbers in it.
 ghost use mathlib.Core.Path.{_≡_};
 ghost use Prim.Native.Nat.{_≤_};
+ghost use lib.ListN.{getD};
 ghost use Rattle.std.specs.Options.{mapped};
 ghost use Rattle.casetext.specs.Text.{number, before, behind};
 ghost use Rattle.casetext.specs.Items.{value};
@@ -36,6 +37,13 @@ pub(crate) fn value_of(field: &[u8], limit: u16) -> u16
     ensures limited { λ r. ⌜ r ≤ limit ⌝ }
 {
     read_number(field, 0, limit).unwrap_or(0)
+}
+
+/// The i-th byte from 0, or 0 where there is none.
+pub(crate) fn byte_at(bytes: &[u8], i: usize) -> u8
+    ensures { λ r. ⌜ r ≡ getD (now (bytes .entry)) i 0 ⌝ }
+{
+    if i < bytes.len() { bytes[i] } else { 0 }
 }
 
 /// What comes before the first `sep`, and what comes behind it.

@@ -18,7 +18,7 @@ use Rattle.std.specs.declared.result.Result.the-variants.{Ok, Err}
 use Rattle.std.proofs.shelf.Elements.{all-push, all-getD, all-append, all-map, all-weaker}
 use Rattle.std.proofs.shelf.Equals.{sameBytes-decides}
 use Rattle.std.proofs.shelf.Lists.{length-push, length-map, length-append, length-drop, getD-drop, getD-past}
-use Rattle.std.proofs.shelf.Tests.{cases-bool, cond-true, cond-false, cond-both, eq-eqb, eqb-true, ne-eqb, and-parts, and-from, or-left, or-right, not-from-false, cases-lt, lt-ltb, le-leb}
+use Rattle.std.proofs.shelf.Tests.{cases-bool, cond-true, cond-false, cond-both, eq-eqb, eqb-true, ne-eqb, and-parts, and-from, or-left, or-right, not-from-false, cases-lt, lt-ltb, le-ltb, le-leb}
 use Rattle.std.proofs.shelf.Ways.{tells}
 use Rattle.regions.specs.Code.{every, within, isOwn}
 use Rattle.game.specs.declared.bounds.Bounds.{Bounds}
@@ -291,9 +291,6 @@ lines-step (l ∷ ls) n (Err e) o = tt
 nothing-in-order : InOrder nothing
 nothing-in-order = record { few-clocks = lit≤ tt; ceilings = tt; few-locations = lit≤ tt; locations = tt; few-edges = lit≤ tt; edges = tt; few-rows = lit≤ tt; rows = tt; level = refl; ranks = tt }
 
-pub lines-in-order : (ls : List (List ℕ)) (s : Said) → readLines 0 (Ok nothing) ls ≡ Ok s → InOrder s
-lines-in-order ls s e = subst OrderOk e (lines-step ls 0 (Ok nothing) nothing-in-order)
-
 -- The game
 
 all-every : {X : Type 0} (p : X → Bool) (xs : List X) → All (λ x. p x ≡ true) xs → every p xs ≡ true
@@ -327,7 +324,7 @@ start-own : (g : Game) → isOwn (start g .region) ≡ true
 start-own g = rw (fresh-within (g .ceilings .x), fresh-within (g .ceilings .y), fresh-within (g .ceilings .z))
 
 -- such a game is sound just when its start is inside the invariant
-pub start-decides : (s : Said) → InOrder s → sound (gameOf s) ≡ starts (gameOf s)
+start-decides : (s : Said) → InOrder s → sound (gameOf s) ≡ starts (gameOf s)
 start-decides s o =
     let g = gameOf s in
     sound-start g ∙ ap (λ b. b && owns g (start g)) (well-made s o) ∙ ap (λ b. b && (eqb (lastWhole (start g .region)) 0 && starts g)) (start-own g)
@@ -375,3 +372,14 @@ pub read-sound : (text : List ℕ) (c : Contents) → readText text ≡ Ok c →
 read-sound text c e =
     subst SoundOk e
     (cond-both (ltb maxText (length text)) _ _ SoundOk (λ _. tt) (λ _. concluded-sound (readLines 0 (Ok nothing) (lines text)) (lines-step (lines text) 0 (Ok nothing) nothing-in-order)))
+
+-- a text that is not too long, once its lines are read
+module _ (text : List ℕ) (r : Result Said TextFault) (short : length text ≤ maxText) (told : readLines 0 (Ok nothing) (lines text) ≡ r) where
+  pub read-told : readText text ≡ concluded r
+  read-told = cond-false _ _ _ (le-ltb maxText (length text) short) ∙ ap concluded told
+
+  told-in-order : OrderOk r
+  told-in-order = subst OrderOk told (lines-step (lines text) 0 (Ok nothing) nothing-in-order)
+
+pub read-said : (text : List ℕ) (s : Said) → length text ≤ maxText → readLines 0 (Ok nothing) (lines text) ≡ Ok s → readText text ≡ cond (sound (gameOf s)) (Ok (contents s)) (Err NoStart)
+read-said text s short told = read-told text (Ok s) short told ∙ ap (λ b. cond b (Ok (contents s)) (Err NoStart)) (sym (start-decides s (told-in-order text (Ok s) short told)))
