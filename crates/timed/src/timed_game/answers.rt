@@ -60,7 +60,7 @@ impl TimedGame {
     fn keeps(&self, location: u8, clocks: Clocks) -> bool
         ensures { λ r. ⌜ r ≡ keeps (gameOf (now (self .entry))) location (standing clocks) ⌝ }
     {
-        match item_at(&self.locations, location as usize) {
+        match item_at(self.locations.as_slice(), location as usize) {
             None => false,
             Some(found) => is_met(found.invariant, clocks),
         }
@@ -106,7 +106,7 @@ impl TimedGame {
         let Some(number) = edge else {
             return Some(wait_in(by, location, clocks));
         };
-        let edge = item_at(&self.edges, number as usize)?;
+        let edge = item_at(self.edges.as_slice(), number as usize)?;
         self.take_edge(by, location, clocks, edge)
     }
 
