@@ -1,9 +1,9 @@
 -- What stands in the list of outcomes.
-use mathlib.Core.Path.{_≡_, refl, sym, ap, _∙_}
+use mathlib.Core.Path.{_≡_, refl, ap}
 use mathlib.Core.List.{List, [], _∷_, _++_}
-use mathlib.Core.Bool.{Bool, true, false}
+use mathlib.Core.Bool.{true, false}
 use mathlib.Core.Logic.{_⊎_, inl, inr}
-use Prim.Native.Nat.{ℕ, zero, suc, _+_, _≤_, _<_}
+use Prim.Native.Nat.{ℕ, zero, suc, _≤_, _<_}
 use native.Mathlib.Omega.{arith}
 use lib.ListN.{length}
 use Rattle.std.specs.declared.option.Option.{Option}
@@ -15,7 +15,7 @@ use Rattle.arena.specs.declared.moves.Side.{Side}
 use Rattle.arena.specs.declared.moves.Side.the-variants.{Us, Them}
 use Rattle.arena.specs.declared.moves.Outcome.{Outcome}
 use Rattle.clocks.specs.Regions.{Part, waits}
-use Rattle.game.specs.Game.{Game, Place, place, result, edgeFits, edgeAt, mayTake, each, given, theirEdge, theirs, theirsAt, oursAt, outcomes}
+use Rattle.game.specs.Game.{Game, Place, place, result, edgeFits, edgeAt, mayTake, each, theirEdge, theirs, theirsAt, oursAt, outcomes}
 use Rattle.game.proofs.Sounds.{nth-all}
 use Rattle.game.proofs.Outcomes.{all-outcomes}
 

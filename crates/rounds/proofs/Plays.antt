@@ -1,30 +1,28 @@
 -- Each round played is an outcome, and each outcome can be played.
 use mathlib.Core.Path.{_≡_, refl, sym, ap, _∙_, subst}
 use mathlib.Core.List.{List, [], _∷_, map, map-map}
-use mathlib.Core.Bool.{Bool, true, false, cond, _&&_}
-use mathlib.Core.Logic.{_⊎_, inl, inr}
+use mathlib.Core.Bool.{Bool, true, false, cond}
+use mathlib.Core.Logic.{inl, inr}
 use Prim.Native.Nat.{ℕ, _+_, _*_, _≤_, _<_, min}
 use native.Mathlib.Omega.{arith}
 use native.Mathlib.Nat.{mul-le-mul-right}
 use lib.Dec.{ltb}
 use Rattle.std.specs.declared.option.Option.{Option}
 use Rattle.std.specs.declared.option.Option.the-variants.{Some, None}
-use Rattle.std.specs.Finite.{nth}
 use Rattle.std.specs.shelf.Lists.{All}
 use Rattle.std.proofs.shelf.Tests.{cases-order, cases-lt, and-parts, and-from, lt-ltb, le-ltb}
 use Rattle.arena.specs.declared.moves.Side.{Side}
 use Rattle.arena.specs.declared.moves.Side.the-variants.{Us, Them}
-use Rattle.arena.specs.declared.moves.Outcome.{Outcome}
 use Rattle.clocks.specs.Regions.{Clock, Part, clock, spot, ranked, regionOf, waits, later, finer}
 use Rattle.clocks.proofs.Main.{scales-stand, earlier-stand, waits-stand}
 use Rattle.clocks.proofs.Lists.{map-same}
 use Rattle.clocks.proofs.Spots.{spot-past}
-use Rattle.game.specs.Game.{Game, Place, place, keeps, owns, edgeAt, result, mayTake, welcome, limits, outcomes, sound}
+use Rattle.game.specs.Game.{Game, place, keeps, edgeAt, result, mayTake, welcome, outcomes, sound}
 use Rattle.game.proofs.Sounds.{sound-ceilings}
 use Rattle.game.proofs.Rises.{keeps-between}
 use Rattle.game.proofs.Outcomes.{owns-parts, allowed}
 use Rattle.rounds.specs.Rounds.{winner, ofSide, roundBy, roundOf}
-use Rattle.rounds.specs.Theorems.{ClocksOf, Proposed, Played, Playable}
+use Rattle.rounds.specs.Theorems.{ClocksOf, Played, Playable}
 use Rattle.rounds.proofs.Members.{Member, ours-in, theirs-in, outcome-cases}
 use Rattle.rounds.proofs.Ticks.{finer-clocks, round-is}
 

@@ -1,19 +1,17 @@
 -- A round on readings does to their region what a move does.
-use mathlib.Core.Path.{_≡_, refl, sym, ap, _∙_}
+use mathlib.Core.Path.{_≡_, sym, ap, _∙_}
 use mathlib.Core.List.{List, [], _∷_, _++_, map, map-map}
-use mathlib.Core.Bool.{Bool, true, false, cond, _&&_}
-use Prim.Native.Nat.{ℕ, zero, suc, _+_, _*_, _≤_, _<_, min}
+use mathlib.Core.Bool.{Bool}
+use Prim.Native.Nat.{ℕ, _+_, _*_, _<_, min}
 use native.Mathlib.Omega.{arith}
-use lib.Dec.{leb, ltb, eqb}
+use lib.Dec.{leb, ltb}
 use Rattle.std.specs.declared.option.Option.{Option}
 use Rattle.std.proofs.shelf.Ways.{tells}
 use Rattle.arena.specs.declared.moves.Side.{Side}
-use Rattle.clocks.specs.Regions.{Clock, Part, clock, spot, seen, classed, ranked, regionOf, later, finer, restarted, zeroed}
-use Rattle.clocks.specs.Theorems.{held}
+use Rattle.clocks.specs.Regions.{Clock, clock, spot, seen, classed, ranked, regionOf, later, finer, zeroed}
 use Rattle.clocks.proofs.Main.{holds-stand}
 use Rattle.clocks.proofs.Resets.{guards-stand, restarts-stand}
-use Rattle.regions.specs.Code.{tickCeiling}
-use Rattle.game.specs.Game.{Game, lastWhole, ticks, carried, resetsOf, edgeAt, result, limits}
+use Rattle.game.specs.Game.{Game, lastWhole, ticks, carried, resetsOf, edgeAt, result}
 use Rattle.rounds.specs.Rounds.{lastReading, ticked, delayed, readingsAfter, roundBy}
 use Rattle.rounds.specs.Theorems.{ClocksOf}
 
