@@ -18,6 +18,7 @@ use Rattle.clocks.specs.Regions.{Part, part, seen, rank, classed, waits, zeroed
 use Rattle.clocks.proofs.Main.{kept-stand, fresh-stand}
 use Rattle.clocks.proofs.Ticks.{rank-pos}
 use Rattle.regions.specs.Code.{isOwn}
+use Rattle.regions.proofs.Owning.{own-from, own-to}
 use Rattle.game.specs.declared.bounds.Bound.{Bound}
 use Rattle.game.specs.declared.bounds.Bounds.{Bounds}
 use Rattle.game.specs.declared.bounds.Zone.{Zone}
@@ -25,7 +26,6 @@ use Rattle.game.specs.declared.parts.Location.{Location}
 use Rattle.game.specs.declared.parts.Edge.{Edge}
 use Rattle.game.specs.Intervals.{zone, meetsHigh, meets, holds}
 use Rattle.game.specs.Game.{Game, place, lastWhole, ticks, sameSide, invariantOf, resetsOf, flags, carried, limits, keeps, owns, result, edgeFits, edgeAt, mayTake, legal, outcomes}
-use Rattle.game.proofs.Owning.{own-from, own-to}
 use Rattle.game.proofs.Rises.{waits-ceilings, keeps-between}
 use Rattle.game.proofs.Outcomes.{owns-parts, allowed, all-outcomes}
 

@@ -7,10 +7,10 @@ use native.Mathlib.Omega.{arith}
 use Rattle.std.proofs.shelf.Tests.{le-leb}
 use Rattle.clocks.specs.Regions.{Part, resting, left, remaining}
 use Rattle.clocks.proofs.Measures.{ends-stand}
+use Rattle.regions.proofs.Owning.{own-from}
 use Rattle.game.specs.Game.{limits, welcomed}
 use Rattle.game.specs.Theorems.{Short}
 use Rattle.game.proofs.Sounds.{sound-ceilings}
-use Rattle.game.proofs.Owning.{own-from}
 use Rattle.game.proofs.Outcomes.{owns-parts}
 
 left-low : (p : Part) → left p ≤ 2 * p .ceiling + 1
