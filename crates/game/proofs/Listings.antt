@@ -1,15 +1,16 @@
 -- A move's outcomes, region by region and edge by edge.
 use mathlib.Core.Path.{_≡_, refl, sym, ap, ap₂, _∙_}
 use mathlib.Core.List.{List, [], _∷_, _++_, append-assoc, append-nil}
-use Prim.Native.Nat.{ℕ, zero, suc, _+_, _-_, _≤_, _<_}
+use Prim.Native.Nat.{ℕ, zero, suc, _+_, _-_, _<_}
 use native.Mathlib.Omega.{arith}
 use lib.ListN.{length}
 use Rattle.std.specs.declared.option.Option.{Option}
 use Rattle.std.specs.declared.option.Option.the-variants.{Some, None}
-use Rattle.arena.specs.declared.moves.Side.the-variants.{Us, Them}
-use Rattle.arena.specs.declared.moves.Outcome.{Outcome}
-use Rattle.clocks.specs.Regions.{Part, next, onward, waits}
-use Rattle.game.specs.Game.{Game, Place, each, result, theirEdge, theirs, theirsAt, oursAt, outcomes}
+use Rattle.std.specs.Finite.{nth}
+use Rattle.arena.specs.declared.moves.Side.the-variants.{Them}
+use Rattle.clocks.specs.Regions.{Part, onward, waits}
+use Rattle.game.specs.declared.parts.Edge.{Edge}
+use Rattle.game.specs.Game.{Game, each, given, fits, edgeFits, result, theirEdge, theirs, theirsAt, oursAt}
 use Rattle.game.specs.Listing.{edgesFrom, theirsOver, theirsAfter}
 use Rattle.game.specs.Theorems.{Listed, ByRegion, Beyond, ByEdge}
 
@@ -76,3 +77,14 @@ by-edge g l q i = (more, λ h. let n : length (g .edges) - i ≡ 0 = omega arith
         ∙ each-front (length (g .edges) - (i + 1)) (λ j. theirEdge g l q (i + j))
         ∙ ap₂ _++_ (ap (theirEdge g l q) z)
         (each-same (length (g .edges) - (i + 1)) (λ j. theirEdge g l q (i + suc j)) (λ j. theirEdge g l q (i + 1 + j)) (λ j. ap (theirEdge g l q) (omega arith)))
+
+-- the edge at number i is at hand
+pub edge-more : (g : Game) (l : ℕ) (q : List Part) (i : ℕ) (e : Edge) → nth (g .edges) i ≡ Some e
+    → edgesFrom g l q i ≡ given (fits g Them l q e) (result g Them l (Some e) q) ++ edgesFrom g l q (i + 1)
+edge-more g l q i e h =
+    by-edge g l q i .0 (below (g .edges) i h) ∙ ap (λ o. given (edgeFits g Them l q o) (result g Them l o q) ++ edgesFrom g l q (i + 1)) h
+  where
+    below : (es : List Edge) (i : ℕ) → nth es i ≡ Some e → i < length es
+    below [] i h = let z : _≡_ {A = ℕ} 0 1 = cc in omega arith
+    below (d ∷ es) zero h = omega arith
+    below (d ∷ es) (suc i) h = let t = below es i h in omega arith

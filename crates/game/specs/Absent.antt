@@ -1,6 +1,6 @@
 -- Fewer than three clocks: a clock that the game does not have is one with ceiling 0 that stands past it.
 use mathlib.Core.Path.{_≡_}
-use mathlib.Core.List.{List, [], _∷_, map}
+use mathlib.Core.List.{List, map}
 use mathlib.Core.Bool.{Bool, true, false}
 use Prim.Native.Nat.{ℕ, _≤_, _<_}
 use lib.ListN.{length}
@@ -37,4 +37,4 @@ StayAbsent =
     (g : Game) → sound g ≡ true
     → All AbsentPast (start g .region)
     × ((l : ℕ) (r : List Part) (k : ℕ) (e : Option ℕ) → map (λ p. p .ceiling) r ≡ limits g → All AbsentPast r
-        → All (λ o. All AbsentPast (o .position .region)) (outcomes g (place l r) k e))
+    → All (λ o. All AbsentPast (o .position .region)) (outcomes g (place l r) k e))
