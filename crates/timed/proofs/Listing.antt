@@ -1,7 +1,8 @@
 -- Outcomes given one by one.
 use mathlib.Core.Path.{_≡_, refl, sym, ap, _∙_}
-use mathlib.Core.List.{List, [], _∷_, _++_, map}
+use mathlib.Core.List.{List, [], _∷_, _++_, map, map-append}
 use mathlib.Core.Bool.{Bool, true, false, cond}
+use mathlib.Core.Logic.{inl, inr}
 use Prim.Native.Nat.{ℕ, zero, suc, _+_, _-_, _≤_, _<_}
 use native.Mathlib.Omega.{arith}
 use lib.ListN.{length}
@@ -9,18 +10,20 @@ use Rattle.std.specs.Options.{isSome}
 use Rattle.std.specs.Finite.{nth}
 use Rattle.std.specs.declared.option.Option.{Option}
 use Rattle.std.specs.declared.option.Option.the-variants.{Some, None}
-use Rattle.std.proofs.shelf.Tests.{cond-true}
+use Rattle.std.proofs.shelf.Tests.{cases-bool, cond-true}
 use Rattle.arena.specs.declared.moves.Side.the-variants.{Us, Them}
 use Rattle.arena.specs.declared.moves.Move.{Move}
 use Rattle.arena.specs.declared.moves.Outcome.{Outcome}
+use Rattle.arena.specs.Meaning.{handed}
 use Rattle.clocks.specs.Regions.{Part, next}
 use Rattle.game.specs.declared.parts.Edge.{Edge}
 use Rattle.game.specs.declared.parts.TimedPosition.{TimedPosition}
-use Rattle.game.specs.Game.{Game, owns, fits, given, legal, result, edgeAt, theirEdge, oursAt, outcomes}
+use Rattle.game.specs.Game.{Game, Place, owns, fits, given, legal, result, edgeAt, theirEdge, oursAt, outcomes, sound}
 use Rattle.game.specs.Listing.{edgesFrom, theirsOver, theirsAfter}
 use Rattle.game.specs.Timed.{placeOf, inCode, timedMeaning}
 use Rattle.game.proofs.Outcomes.{allowed}
 use Rattle.game.proofs.Listings.{listed, by-region, beyond, by-edge}
+use Rattle.game.proofs.Lawfuls.{lawfully}
 use Rattle.timed.specs.Carried.{carriedOut}
 use Rattle.timed.proofs.Tables.{some-when, none-when}
 use Rattle.timed.proofs.Answering.{legal-some}
@@ -78,3 +81,26 @@ module _ (g : Game) (l : ℕ) (q : List Part) (i : ℕ) (e : Edge) (at : Some e 
   edge-passed h =
       let t = none-when (fits g Them l q e) (inCode (result g Them l (Some e) q)) h in
       by-edge g l q i .0 n ∙ ap (λ xs. xs ++ edgesFrom g l q (i + 1)) (edge-there false t)
+
+-- an edge is handed out, or they have none left in this region
+pub edge-handed : (r : Option (Outcome TimedPosition)) (xs ys zs : List (Outcome Place)) → isSome r ≡ true → map inCode xs ≡ handed r (map inCode ys)
+    → map inCode (xs ++ zs) ≡ handed r (map inCode (ys ++ zs))
+edge-handed None xs ys zs s e = let z : _≡_ {A = ℕ} 0 1 = cc in let w : ⊥ = omega arith in absurd w
+edge-handed (Some o) xs ys zs s e = map-append inCode xs zs ∙ ap (λ os. os ++ map inCode zs) e ∙ ap (λ os. o ∷ os) (sym (map-append inCode ys zs))
+
+pub edges-over : (r : Option (Outcome TimedPosition)) (xs ys zs : List (Outcome Place)) → isSome r ≡ false → map inCode xs ≡ handed r (map inCode ys)
+    → map inCode (xs ++ zs) ≡ map inCode zs
+edges-over None xs ys zs s e = map-append inCode xs zs ∙ ap (λ os. os ++ map inCode zs) e
+edges-over (Some o) xs ys zs s e = let z : _≡_ {A = ℕ} 0 1 = cc in let w : ⊥ = omega arith in absurd w
+
+-- there are at most 65,535
+pub outcomes-bound : (g : Game) → sound g ≡ true → (p : TimedPosition) (m : Move) → length (timedMeaning g .outcomes p m) ≤ 65535
+outcomes-bound g s p m = let w = lawfully g s in elim (cases-bool (legal g Us (placeOf g p) (m .steps) (m .edge))) [
+  | inl t ↦ w .counts p m t .1
+  | inr t ↦ let e = ap length (w .idle p m t) in omega arith
+]
+
+-- the one that is so many on, once the first is given
+pub nth-after : {A : Type 0} (xs ys : List A) (x : A) (n : ℕ) → xs ≡ x ∷ ys → 0 < n → nth xs n ≡ nth ys (n - 1)
+nth-after xs ys x zero e z = let w : ⊥ = omega arith in absurd w
+nth-after xs ys x (suc n) e z = let i : n ≡ suc n - 1 = omega arith in ap (λ l. nth l (suc n)) e ∙ ap (nth ys) i

@@ -34,6 +34,7 @@ fn same_clock(a: ClockRegion, b: ClockRegion) -> bool
 
 pub impl Arena for TimedGame as TimedArena {
     type Position = TimedPosition;
+
     type Listing = TimedListing;
 
     ghost meaning = { λ t. timedMeaning (gameOf t) };

@@ -120,7 +120,11 @@ impl TimedGame {
         ensures { λ r. ⌜ mapped gameOf r ≡ soundly (game ceilings (vec-items locations) (vec-items edges)) ⌝ }
     {
         if is_well_made(ceilings, &locations, &edges) && starts_at_zero(&locations) {
-            Some(TimedGame { ceilings, locations, edges })
+            Some(TimedGame {
+                ceilings,
+                locations,
+                edges,
+            })
         } else {
             None
         }
