@@ -2,15 +2,14 @@
 use mathlib.Core.Path.{_≡_, refl, sym, ap, ap₂, _∙_, subst}
 use mathlib.Core.List.{List, [], _∷_, _++_, map}
 use mathlib.Core.Bool.{Bool, true, false, not, cond, _&&_, _||_, or-true}
-use mathlib.Core.Logic.{_⊎_, inl, inr}
+use mathlib.Core.Logic.{inl, inr}
 use Prim.Native.Nat.{ℕ, zero, suc, _+_, _≤_, _<_, max}
 use native.Mathlib.Omega.{arith}
-use lib.Dec.{leb, ltb, eqb}
-use lib.ListN.{length, take, drop}
+use lib.Dec.{ltb, eqb}
+use lib.ListN.{length}
 use Rattle.std.specs.declared.option.Option.{Option}
 use Rattle.std.specs.declared.option.Option.the-variants.{Some, None}
 use Rattle.std.specs.Options.{mapped}
-use Rattle.std.specs.Finite.{nth}
 use Rattle.std.specs.Holes.{inserted}
 use Rattle.std.specs.shelf.Lists.{All}
 use Rattle.std.proofs.shelf.Elements.{all-map, all-weaker}
@@ -24,10 +23,9 @@ use Rattle.regions.specs.Code.{tickCeiling}
 use Rattle.game.specs.declared.bounds.Bound.{Bound}
 use Rattle.game.specs.declared.bounds.Bounds.{Bounds}
 use Rattle.game.specs.declared.parts.Edge.{Edge}
-use Rattle.game.specs.declared.parts.Resets.{Resets}
 use Rattle.game.specs.Intervals.{unending, everywhere, meetsHigh, meets, holds}
-use Rattle.game.specs.Game.{Game, ticks, flags, resetsOf, carried, fresh, limits, start, edgeAt, result, resettable, resetting, suits, sound}
-use Rattle.game.specs.Absent.{Past, Unseen, Absent, AbsentPast, StayAbsent}
+use Rattle.game.specs.Game.{Game, ticks, resetsOf, fresh, limits, edgeAt, result, resettable, resetting, suits, sound}
+use Rattle.game.specs.Absent.{Past, Absent, AbsentPast, StayAbsent}
 use Rattle.game.proofs.Sounds.{sound-edge}
 use Rattle.game.proofs.Rises.{next-cases, waits-keep, waits-ceilings}
 use Rattle.game.proofs.Outcomes.{all-outcomes}

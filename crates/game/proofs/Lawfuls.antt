@@ -1,26 +1,20 @@
 -- The timed game keeps the laws of an arena.
-use mathlib.Core.Path.{_≡_, refl, sym, ap, ap₂, _∙_, subst}
+use mathlib.Core.Path.{_≡_, refl, ap, ap₂, _∙_, subst}
 use mathlib.Core.List.{List, [], _∷_, map}
 use mathlib.Core.Bool.{Bool, true, false, cond, _&&_}
-use mathlib.Core.Logic.{_⊎_, inl, inr}
-use Prim.Native.Nat.{ℕ, zero, suc, _+_, _≤_, _<_}
+use mathlib.Core.Logic.{inl, inr}
+use Prim.Native.Nat.{ℕ, zero, suc, _≤_, _<_}
 use native.Mathlib.Omega.{arith}
 use lib.Dec.{leb, eqb}
 use lib.ListN.{length, length-map}
-use Rattle.std.specs.declared.option.Option.{Option}
-use Rattle.std.specs.declared.option.Option.the-variants.{Some, None}
 use Rattle.std.specs.Orderings.{Decides}
 use Rattle.std.specs.Finite.{nth}
-use Rattle.std.specs.shelf.Lists.{All}
 use Rattle.std.proofs.shelf.Elements.{all-map, all-weaker}
 use Rattle.std.proofs.shelf.Maps.{nth-past}
 use Rattle.std.proofs.shelf.Tests.{cases-bool, cases-lt, and-parts, leb-true}
 use Rattle.std.proofs.shelf.Ways.{tells, decides-eqb, decides-and, decides-like}
-use Rattle.arena.specs.Meaning.{Meaning, Lawful}
-use Rattle.arena.specs.declared.moves.Move.{Move}
 use Rattle.arena.specs.declared.moves.Side.the-variants.{Us}
-use Rattle.arena.specs.declared.moves.Outcome.{Outcome}
-use Rattle.clocks.specs.Regions.{Part, part, waits}
+use Rattle.clocks.specs.Regions.{Part, waits}
 use Rattle.regions.specs.declared.region.ClockRegion.{ClockRegion}
 use Rattle.regions.specs.declared.region.Region.{Region}
 use Rattle.regions.specs.declared.region.Ceilings.{Ceilings}
@@ -28,8 +22,8 @@ use Rattle.regions.specs.Code as code
 use Rattle.regions.specs.Code.{parts, every}
 use Rattle.game.specs.declared.parts.Location.{Location}
 use Rattle.game.specs.declared.parts.TimedPosition.{TimedPosition}
-use Rattle.game.specs.Game.{Game, Place, place, invariantOf, limits, keeps, owns, start, legal, welcomed, outcomes, suits, soundLocation, sound}
-use Rattle.game.specs.Timed.{placeOf, regionFrom, positionOf, inCode, sameClock, samePosition, priorityOf, timedMeaning, Lawfully}
+use Rattle.game.specs.Game.{Game, Place, place, invariantOf, limits, keeps, owns, start, outcomes, suits, soundLocation}
+use Rattle.game.specs.Timed.{placeOf, regionFrom, positionOf, inCode, sameClock, samePosition, priorityOf, Lawfully}
 use Rattle.game.proofs.Sounds.{sound-parts, sound-made}
 use Rattle.game.proofs.Outcomes.{owns-parts, allowed, outcomes-few}
 use Rattle.game.proofs.Laws.{outcomes-own}

@@ -2,9 +2,9 @@
 use mathlib.Core.Path.{_≡_, refl, sym, ap, ap₂, _∙_}
 use mathlib.Core.List.{List, [], _∷_, _++_, map, map-map}
 use mathlib.Core.Bool.{Bool, true, false, not, cond, _&&_, _||_}
-use Prim.Native.Nat.{ℕ, zero, suc, _+_, _≤_, _<_}
+use Prim.Native.Nat.{ℕ, suc, _<_}
 use native.Mathlib.Omega.{arith}
-use lib.Dec.{leb, ltb, eqb}
+use lib.Dec.{ltb, eqb}
 use lib.ListN.{length, length-map}
 use Rattle.std.specs.declared.option.Option.{Option}
 use Rattle.std.specs.declared.option.Option.the-variants.{Some, None}
@@ -14,19 +14,18 @@ use Rattle.std.proofs.shelf.Tests.{and-parts, and-from, eq-eqb}
 use Rattle.std.proofs.shelf.Ways.{tells}
 use Rattle.arena.specs.declared.moves.Side.{Side}
 use Rattle.arena.specs.declared.moves.Side.the-variants.{Us, Them}
-use Rattle.arena.specs.declared.moves.Outcome.{Outcome}
-use Rattle.clocks.specs.Regions.{Part, part, seen, rank, classed, ranked, waits, zeroed, Own}
+use Rattle.clocks.specs.Regions.{Part, part, seen, rank, classed, waits, zeroed, Own}
 use Rattle.clocks.proofs.Main.{kept-stand, fresh-stand}
 use Rattle.clocks.proofs.Ticks.{rank-pos}
 use Rattle.regions.specs.Code.{isOwn}
+use Rattle.regions.proofs.Owning.{own-from, own-to}
 use Rattle.game.specs.declared.bounds.Bound.{Bound}
 use Rattle.game.specs.declared.bounds.Bounds.{Bounds}
 use Rattle.game.specs.declared.bounds.Zone.{Zone}
 use Rattle.game.specs.declared.parts.Location.{Location}
 use Rattle.game.specs.declared.parts.Edge.{Edge}
 use Rattle.game.specs.Intervals.{zone, meetsHigh, meets, holds}
-use Rattle.game.specs.Game.{Game, Place, place, lastWhole, ticks, sameSide, invariantOf, toOf, resetsOf, flags, carried, limits, keeps, owns, result, edgeFits, edgeAt, mayTake, legal, outcomes}
-use Rattle.game.proofs.Owning.{own-from, own-to}
+use Rattle.game.specs.Game.{Game, place, lastWhole, ticks, sameSide, invariantOf, resetsOf, flags, carried, limits, keeps, owns, result, edgeFits, edgeAt, mayTake, legal, outcomes}
 use Rattle.game.proofs.Rises.{waits-ceilings, keeps-between}
 use Rattle.game.proofs.Outcomes.{owns-parts, allowed, all-outcomes}
 

@@ -1,6 +1,5 @@
 pub mod Listings
 pub mod Sounds
-pub mod Owning
 pub mod Rises
 pub mod Outcomes
 pub mod Laws

@@ -1,17 +1,16 @@
 -- A move's outcomes, region by region and edge by edge.
 use mathlib.Core.Path.{_≡_, refl, sym, ap, ap₂, _∙_}
 use mathlib.Core.List.{List, [], _∷_, _++_, append-assoc, append-nil}
-use Prim.Native.Nat.{ℕ, zero, suc, _+_, _-_, _≤_, _<_}
+use Prim.Native.Nat.{ℕ, zero, suc, _+_, _-_, _<_}
 use native.Mathlib.Omega.{arith}
 use lib.ListN.{length}
 use Rattle.std.specs.declared.option.Option.{Option}
 use Rattle.std.specs.declared.option.Option.the-variants.{Some, None}
 use Rattle.std.specs.Finite.{nth}
-use Rattle.arena.specs.declared.moves.Side.the-variants.{Us, Them}
-use Rattle.arena.specs.declared.moves.Outcome.{Outcome}
-use Rattle.clocks.specs.Regions.{Part, next, onward, waits}
+use Rattle.arena.specs.declared.moves.Side.the-variants.{Them}
+use Rattle.clocks.specs.Regions.{Part, onward, waits}
 use Rattle.game.specs.declared.parts.Edge.{Edge}
-use Rattle.game.specs.Game.{Game, Place, each, given, fits, edgeFits, result, theirEdge, theirs, theirsAt, oursAt, outcomes}
+use Rattle.game.specs.Game.{Game, each, given, fits, edgeFits, result, theirEdge, theirs, theirsAt, oursAt}
 use Rattle.game.specs.Listing.{edgesFrom, theirsOver, theirsAfter}
 use Rattle.game.specs.Theorems.{Listed, ByRegion, Beyond, ByEdge}
 

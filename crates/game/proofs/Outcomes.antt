@@ -1,8 +1,7 @@
 -- What holds of each outcome, and how many there are.
-use mathlib.Core.Path.{_≡_, refl, sym, ap, _∙_}
-use mathlib.Core.List.{List, [], _∷_, _++_}
-use mathlib.Core.Bool.{Bool, true, false, cond, _&&_}
-use mathlib.Core.Logic.{_⊎_, inl, inr}
+use mathlib.Core.Path.{_≡_, refl, ap}
+use mathlib.Core.List.{List}
+use mathlib.Core.Bool.{Bool, true, false, _&&_}
 use Prim.Native.Nat.{ℕ, zero, suc, _+_, _*_, _≤_, _<_}
 use native.Mathlib.Omega.{arith}
 use native.Mathlib.Nat.{mul-le-mul-right}
@@ -10,18 +9,15 @@ use lib.Dec.{leb, eqb}
 use lib.ListN.{length, length-append}
 use Rattle.std.specs.declared.option.Option.{Option}
 use Rattle.std.specs.declared.option.Option.the-variants.{Some, None}
-use Rattle.std.specs.Finite.{nth}
 use Rattle.std.specs.shelf.Lists.{All}
 use Rattle.std.proofs.shelf.Elements.{all-append}
-use Rattle.std.proofs.shelf.Tests.{cases-bool, cases-eq, and-parts, leb-true, eqb-true}
-use Rattle.std.proofs.shelf.Ways.{tells}
+use Rattle.std.proofs.shelf.Tests.{and-parts, leb-true, eqb-true}
 use Rattle.arena.specs.declared.moves.Side.{Side}
 use Rattle.arena.specs.declared.moves.Side.the-variants.{Us, Them}
 use Rattle.arena.specs.declared.moves.Outcome.{Outcome}
 use Rattle.clocks.specs.Regions.{Part, waits}
 use Rattle.regions.specs.Code.{isOwn}
-use Rattle.game.specs.declared.parts.Edge.{Edge}
-use Rattle.game.specs.Game.{Game, Place, place, lastWhole, keeps, owns, result, edgeFits, edgeAt, mayTake, welcomed, legal, each, given, theirEdge, theirs, theirsAt, oursAt, outcomes}
+use Rattle.game.specs.Game.{Game, Place, place, lastWhole, keeps, owns, result, edgeAt, mayTake, welcomed, legal, each, given, theirEdge, theirsAt, oursAt, outcomes}
 
 all-each : {A : Type 0} (P : A → Type 0) (n : ℕ) (f : ℕ → List A) → ((j : ℕ) → j < n → All P (f j)) → All P (each n f)
 all-each P zero f h = tt

@@ -9,15 +9,15 @@ use native.Mathlib.Nat.{mul-le-mul-right}
 use lib.Dec.{leb, ltb, eqb}
 use Rattle.std.specs.declared.option.Option.{Option}
 use Rattle.std.specs.declared.option.Option.the-variants.{Some, None}
-use Rattle.std.proofs.shelf.Tests.{and-parts, and-from, leb-true, cases-order}
+use Rattle.std.proofs.shelf.Tests.{and-parts, leb-true, cases-order}
 use Rattle.std.proofs.shelf.Ways.{tells}
-use Rattle.clocks.specs.Regions.{Clock, Part, spot, seen, classed, regionOf}
+use Rattle.clocks.specs.Regions.{Clock, spot, seen, classed}
 use Rattle.clocks.proofs.Resets.{guards-stand}
 use Rattle.game.specs.declared.bounds.Bound.{Bound}
 use Rattle.game.specs.declared.bounds.Bounds.{Bounds}
 use Rattle.game.specs.declared.bounds.Zone.{Zone}
-use Rattle.game.specs.Intervals.{zone, reaches, inhabited, upTo, bounded, everywhere, fitting, equals, exceeds, meetsLow, meetsHigh, meets, holds, insideLow, insideHigh, inside, insides}
-use Rattle.game.specs.Game.{Game, limits, suits}
+use Rattle.game.specs.Intervals.{reaches, inhabited, upTo, bounded, everywhere, fitting, meetsLow, meetsHigh, meets, holds, insideLow, insideHigh, inside, insides}
+use Rattle.game.specs.Game.{Game, suits}
 use Rattle.game.specs.Theorems.{Inhabited, boundedBy, Measured, Suited}
 
 -- an interval that contains a reading, and a reading that it contains

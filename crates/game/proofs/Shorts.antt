@@ -1,16 +1,16 @@
 -- No wait from an own position has more than 96 steps.
-use mathlib.Core.Path.{_≡_, refl, ap, ap₂, _∙_}
+use mathlib.Core.Path.{_≡_, ap, ap₂}
 use mathlib.Core.List.{List, [], _∷_, map}
 use mathlib.Core.Bool.{Bool, true, false, cond, _&&_}
 use Prim.Native.Nat.{ℕ, _+_, _-_, _*_, _≤_}
 use native.Mathlib.Omega.{arith}
 use Rattle.std.proofs.shelf.Tests.{le-leb}
-use Rattle.clocks.specs.Regions.{Part, resting, waits, left, remaining}
+use Rattle.clocks.specs.Regions.{Part, resting, left, remaining}
 use Rattle.clocks.proofs.Measures.{ends-stand}
-use Rattle.game.specs.Game.{Game, limits, welcomed}
+use Rattle.regions.proofs.Owning.{own-from}
+use Rattle.game.specs.Game.{limits, welcomed}
 use Rattle.game.specs.Theorems.{Short}
 use Rattle.game.proofs.Sounds.{sound-ceilings}
-use Rattle.game.proofs.Owning.{own-from}
 use Rattle.game.proofs.Outcomes.{owns-parts}
 
 left-low : (p : Part) → left p ≤ 2 * p .ceiling + 1

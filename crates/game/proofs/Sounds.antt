@@ -1,18 +1,16 @@
 -- A sound game taken apart.
-use mathlib.Core.Path.{_≡_, refl, sym, ap, _∙_}
+use mathlib.Core.Path.{_≡_, sym, _∙_}
 use mathlib.Core.List.{List, [], _∷_}
-use mathlib.Core.Bool.{Bool, true, false, _&&_, and-assoc}
-use Prim.Native.Nat.{ℕ, zero, suc, _≤_, _<_}
+use mathlib.Core.Bool.{Bool, true, _&&_, and-assoc}
+use Prim.Native.Nat.{ℕ, zero, suc, _≤_}
 use native.Mathlib.Omega.{arith}
-use lib.Dec.{leb, ltb, eqb}
+use lib.Dec.{leb}
 use lib.ListN.{length}
-use Rattle.std.specs.declared.option.Option.{Option}
-use Rattle.std.specs.declared.option.Option.the-variants.{Some, None}
+use Rattle.std.specs.declared.option.Option.the-variants.{Some}
 use Rattle.std.specs.Finite.{nth}
 use Rattle.std.specs.shelf.Lists.{All}
 use Rattle.std.proofs.shelf.Tests.{and-parts, leb-true, le-leb}
-use Rattle.std.proofs.shelf.Ways.{tells}
-use Rattle.regions.specs.Code.{every, ceiled, tickCeiling}
+use Rattle.regions.specs.Code.{every, ceiled}
 use Rattle.game.specs.declared.parts.Edge.{Edge}
 use Rattle.game.specs.Game.{Game, owns, start, limits, inTurn, soundLocation, soundEdge, sound}
 use Rattle.game.specs.Start.{wellMade}

@@ -1,9 +1,9 @@
 -- When the start is an own position.
 use mathlib.Core.Path.{_≡_, refl, sym, ap, ap₂, _∙_}
-use mathlib.Core.List.{List, [], _∷_, map}
+use mathlib.Core.List.{List, [], _∷_}
 use mathlib.Core.Bool.{Bool, true, false, not, cond, _&&_, _||_, and-true}
-use mathlib.Core.Logic.{_⊎_, inl, inr}
-use Prim.Native.Nat.{ℕ, _+_, _≤_, _<_}
+use mathlib.Core.Logic.{inl, inr}
+use Prim.Native.Nat.{ℕ}
 use native.Mathlib.Omega.{arith}
 use lib.Dec.{leb, ltb, eqb}
 use Rattle.std.specs.declared.option.Option.{Option}
@@ -11,7 +11,7 @@ use Rattle.std.specs.declared.option.Option.the-variants.{Some, None}
 use Rattle.std.specs.Finite.{nth}
 use Rattle.std.proofs.shelf.Tests.{and-parts, cases-bool, cases-eq}
 use Rattle.std.proofs.shelf.Ways.{tells}
-use Rattle.clocks.specs.Regions.{Part, part}
+use Rattle.clocks.specs.Regions.{part}
 use Rattle.regions.specs.Code.{every, within, isOwn}
 use Rattle.game.specs.declared.bounds.Bound.{Bound}
 use Rattle.game.specs.declared.bounds.Bounds.{Bounds}

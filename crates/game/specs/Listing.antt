@@ -1,9 +1,8 @@
 -- A move's outcomes in the order in which a listing gives them, one by one.
-use mathlib.Core.List.{List, [], _∷_, _++_}
+use mathlib.Core.List.{List, [], _++_}
 use Prim.Native.Nat.{ℕ, zero, suc, _+_, _-_}
 use lib.ListN.{length}
 use Rattle.std.specs.declared.option.Option.{Option}
-use Rattle.std.specs.declared.option.Option.the-variants.{Some, None}
 use Rattle.arena.specs.declared.moves.Outcome.{Outcome}
 use Rattle.clocks.specs.Regions.{Part, next, onward}
 use Rattle.game.specs.Game.{Game, Place, each, theirEdge, theirsAt}

@@ -1,12 +1,10 @@
 -- What makes a game sound, its start apart, and when its start is an own position.
-use mathlib.Core.Bool.{Bool, true, false, not, _&&_}
+use mathlib.Core.Bool.{Bool, false, not, _&&_}
 use mathlib.Core.List.{List, [], _∷_}
-use Prim.Native.Nat.{ℕ}
 use lib.Dec.{leb, eqb}
 use lib.ListN.{length}
 use Rattle.regions.specs.Code.{every, ceiled}
 use Rattle.game.specs.declared.bounds.Bounds.{Bounds}
-use Rattle.game.specs.declared.bounds.Zone.{Zone}
 use Rattle.game.specs.declared.parts.Location.{Location}
 use Rattle.game.specs.Game.{Game, inTurn, soundLocation, soundEdge}
 

@@ -45,7 +45,5 @@ fn is_everywhere(bounds: Bounds) -> bool
 pub fn is_fitting(bounds: Bounds, ceiling: u8) -> bool
     ensures { λ r. ⌜ r ≡ fitting ceiling bounds ⌝ }
 {
-    is_inhabited(bounds)
-        && is_bounded(bounds, ceiling)
-        && (ceiling > 0 || is_everywhere(bounds))
+    is_inhabited(bounds) && is_bounded(bounds, ceiling) && (ceiling > 0 || is_everywhere(bounds))
 }

@@ -6,16 +6,15 @@ use regions::standing::Clocks;
 ghost use mathlib.Core.Path.{_≡_};
 ghost use mathlib.Core.Bool.{true};
 ghost use Rattle.std.specs.Finite.{nth};
-ghost use Rattle.std.specs.Of.Vec.{vec-items};
 ghost use Rattle.regions.specs.Standing.{standing};
 ghost use Rattle.game.specs.Intervals.{zone, inhabited, holds};
 ghost use Rattle.timed.specs.Rows.{habitable};
 
 /// The element at a number, if there is one.
-pub(crate) fn item_at<T: Copy>(items: &Vec<T>, number: usize) -> Option<T>
-    ensures { λ r. ⌜ r ≡ nth (vec-items (now (items .entry))) number ⌝ }
+pub(crate) fn item_at<T: Copy>(items: &[T], number: usize) -> Option<T>
+    ensures { λ r. ⌜ r ≡ nth (now (items .entry)) number ⌝ }
 {
-    items.as_slice().get(number).copied()
+    items.get(number).copied()
 }
 
 /// The interval of a row that has been checked.

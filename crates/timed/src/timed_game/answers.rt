@@ -26,7 +26,11 @@ ghost use Rattle.timed.specs.Code.{gameOf};
 const MOST_STEPS: u8 = 96;
 
 /// No clock is reset.
-const NO_RESETS: Resets = Resets { x: false, y: false, z: false };
+const NO_RESETS: Resets = Resets {
+    x: false,
+    y: false,
+    z: false,
+};
 
 /// The clocks once a move is carried out where they stand: some are reset, the tick clock too if
 /// it has reached a unit.
@@ -60,7 +64,7 @@ impl TimedGame {
     fn keeps(&self, location: u8, clocks: Clocks) -> bool
         ensures { λ r. ⌜ r ≡ keeps (gameOf (now (self .entry))) location (standing clocks) ⌝ }
     {
-        match item_at(&self.locations, location as usize) {
+        match item_at(self.locations.as_slice(), location as usize) {
             None => false,
             Some(found) => is_met(found.invariant, clocks),
         }
@@ -78,7 +82,13 @@ impl TimedGame {
     }
 
     /// What an edge comes to where this side may take it.
-    pub(super) fn take_edge(&self, by: Side, location: u8, clocks: Clocks, edge: Edge) -> Option<Outcome<TimedPosition>>
+    pub(super) fn take_edge(
+        &self,
+        by: Side,
+        location: u8,
+        clocks: Clocks,
+        edge: Edge,
+    ) -> Option<Outcome<TimedPosition>>
         requires { ⌜ habitable (edge .guard) ≡ true ⌝ }
         ensures { λ r. ⌜ r ≡ cond (fits (gameOf (now (self .entry))) by location (standing clocks) edge) (Some (inCode (result (gameOf (now (self .entry))) by location (Some edge) (standing clocks)))) None ⌝ }
     {
@@ -100,18 +110,30 @@ impl TimedGame {
     }
 
     /// What the edge of a number, or no edge, comes to where this side may take it.
-    fn take(&self, by: Side, location: u8, clocks: Clocks, edge: Option<u16>) -> Option<Outcome<TimedPosition>>
+    fn take(
+        &self,
+        by: Side,
+        location: u8,
+        clocks: Clocks,
+        edge: Option<u16>,
+    ) -> Option<Outcome<TimedPosition>>
         ensures { λ r. ⌜ r ≡ cond (mayTake (gameOf (now (self .entry))) by location (standing clocks) edge) (Some (inCode (result (gameOf (now (self .entry))) by location (edgeAt (gameOf (now (self .entry))) edge) (standing clocks)))) None ⌝ }
     {
         let Some(number) = edge else {
             return Some(wait_in(by, location, clocks));
         };
-        let edge = item_at(&self.edges, number as usize)?;
+        let edge = item_at(self.edges.as_slice(), number as usize)?;
         self.take_edge(by, location, clocks, edge)
     }
 
     /// What a move of this side comes to from where the clocks stand, if it is legal there.
-    pub(super) fn carry_out_from(&self, by: Side, location: u8, clocks: Clocks, m: Move) -> Option<Outcome<TimedPosition>>
+    pub(super) fn carry_out_from(
+        &self,
+        by: Side,
+        location: u8,
+        clocks: Clocks,
+        m: Move,
+    ) -> Option<Outcome<TimedPosition>>
         ensures { λ r. ⌜ r ≡ reached (gameOf (now (self .entry))) by location (standing clocks) m ⌝ }
     {
         if m.steps > MOST_STEPS {

@@ -9,7 +9,6 @@ use arena::moves::Side;
 use game::parts::TimedPosition;
 use regions::region::ClockRegion;
 use regions::region::Region;
-use regions::region::RegionPartialEq;
 use regions::region::TICK_CEILING;
 ghost use mathlib.Core.Path.{_≡_};
 ghost use Rattle.std.specs.declared.option.Option.the-variants.{Some};
@@ -26,8 +25,16 @@ fn fresh_clock(ceiling: u8) -> ClockRegion
     ClockRegion { whole, class: 0 }
 }
 
+/// Whether two clocks stand at the same place.
+fn same_clock(a: ClockRegion, b: ClockRegion) -> bool
+    ensures { λ r. ⌜ r ≡ sameClock a b ⌝ }
+{
+    a.whole == b.whole && a.class == b.class
+}
+
 pub impl Arena for TimedGame as TimedArena {
     type Position = TimedPosition;
+
     type Listing = TimedListing;
 
     ghost meaning = { λ t. timedMeaning (gameOf t) };
@@ -47,7 +54,11 @@ pub impl Arena for TimedGame as TimedArena {
     }
 
     fn same(&self, p: &TimedPosition, q: &TimedPosition) -> bool {
-        p.location == q.location && p.region == q.region
+        p.location == q.location
+            && same_clock(p.region.x, q.region.x)
+            && same_clock(p.region.y, q.region.y)
+            && same_clock(p.region.z, q.region.z)
+            && same_clock(p.region.tick, q.region.tick)
     }
 
     fn digest(&self, p: &TimedPosition) -> u32 {
@@ -70,7 +81,7 @@ pub impl Arena for TimedGame as TimedArena {
         if !self.owns(p) {
             return 0;
         }
-        match item_at(&self.locations, p.location as usize) {
+        match item_at(self.locations.as_slice(), p.location as usize) {
             None => 0,
             Some(location) => location.priority,
         }

@@ -58,7 +58,12 @@ impl TimedGame {
     }
 
     /// Their next edge that they may take, from a number on, which moves on.
-    fn next_edge(&self, location: u8, clocks: Clocks, from: &mut usize) -> Option<Outcome<TimedPosition>>
+    fn next_edge(
+        &self,
+        location: u8,
+        clocks: Clocks,
+        from: &mut usize,
+    ) -> Option<Outcome<TimedPosition>>
         ensures { λ r. ⌜ map inCode (edgesFrom (gameOf (now (self .entry))) location (standing clocks) (now (from .entry))) ≡ handed r (map inCode (edgesFrom (gameOf (now (self .entry))) location (standing clocks) (now (from .exit)))) ⌝ }
     {
         while *from < self.edges.len() {

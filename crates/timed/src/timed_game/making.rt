@@ -1,5 +1,6 @@
 //! Timed games from their tables.
 use super::TimedGame;
+use crate::zones::item_at;
 use game::bounds::Bounds;
 use game::bounds::Zone;
 use game::parts::Edge;
@@ -61,10 +62,10 @@ fn is_sound_edge(edge: Edge, c: Ceilings, locations: usize) -> bool
         && is_suited(edge.guard, c)
 }
 
-fn are_sound_locations(locations: &Vec<Location>, c: Ceilings) -> bool
-    ensures { λ r. ⌜ r ≡ every (soundLocation c) (vec-items (now (locations .entry))) ⌝ }
+fn are_sound_locations(locations: &[Location], c: Ceilings) -> bool
+    ensures { λ r. ⌜ r ≡ every (soundLocation c) (now (locations .entry)) ⌝ }
 {
-    for location in locations.as_slice() {
+    for location in locations {
         if !is_sound_location(*location, c) {
             return false;
         }
@@ -72,10 +73,10 @@ fn are_sound_locations(locations: &Vec<Location>, c: Ceilings) -> bool
     true
 }
 
-fn are_sound_edges(edges: &Vec<Edge>, c: Ceilings, locations: usize) -> bool
-    ensures { λ r. ⌜ r ≡ every (soundEdge c locations) (vec-items (now (edges .entry))) ⌝ }
+fn are_sound_edges(edges: &[Edge], c: Ceilings, locations: usize) -> bool
+    ensures { λ r. ⌜ r ≡ every (soundEdge c locations) (now (edges .entry)) ⌝ }
 {
-    for edge in edges.as_slice() {
+    for edge in edges {
         if !is_sound_edge(*edge, c, locations) {
             return false;
         }
@@ -91,21 +92,19 @@ fn is_from_zero(row: Bounds) -> bool
 }
 
 /// Whether there is a location 0, and all clocks may be at zero in it.
-fn starts_at_zero(locations: &Vec<Location>) -> bool
-    ensures { λ r. ⌜ r ≡ startsAtZero (vec-items (now (locations .entry))) ⌝ }
+fn starts_at_zero(locations: &[Location]) -> bool
+    ensures { λ r. ⌜ r ≡ startsAtZero (now (locations .entry)) ⌝ }
 {
-    match locations.as_slice() {
-        [] => false,
-        [first, ..] => {
-            let at_start = first.invariant;
-            is_from_zero(at_start.x) && is_from_zero(at_start.y) && is_from_zero(at_start.z)
-        }
-    }
+    let Some(first) = item_at(locations, 0) else {
+        return false;
+    };
+    let rows = first.invariant;
+    is_from_zero(rows.x) && is_from_zero(rows.y) && is_from_zero(rows.z)
 }
 
 /// Whether ceilings, locations and edges keep the rules, wherever the start is.
-fn is_well_made(c: Ceilings, locations: &Vec<Location>, edges: &Vec<Edge>) -> bool
-    ensures { λ r. ⌜ r ≡ wellMade (game c (vec-items (now (locations .entry))) (vec-items (now (edges .entry)))) ⌝ }
+fn is_well_made(c: Ceilings, locations: &[Location], edges: &[Edge]) -> bool
+    ensures { λ r. ⌜ r ≡ wellMade (game c (now (locations .entry)) (now (edges .entry))) ⌝ }
 {
     c.are_allowed()
         && is_in_turn(c)
@@ -121,7 +120,11 @@ impl TimedGame {
         ensures { λ r. ⌜ mapped gameOf r ≡ soundly (game ceilings (vec-items locations) (vec-items edges)) ⌝ }
     {
         if is_well_made(ceilings, &locations, &edges) && starts_at_zero(&locations) {
-            Some(TimedGame { ceilings, locations, edges })
+            Some(TimedGame {
+                ceilings,
+                locations,
+                edges,
+            })
         } else {
             None
         }
