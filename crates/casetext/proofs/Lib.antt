@@ -1,1 +1,7 @@
-pub mod Examples
+pub mod Faults
+pub mod Layouts
+pub mod Numbers
+pub mod Reading
+pub mod Sounds
+pub mod Splits
+pub mod Words

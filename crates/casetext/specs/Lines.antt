@@ -73,12 +73,23 @@ abbrev pub standings : List ℕ → List Form
 standings [] = standing
 standings (c ∷ cs) = standing ++ standings cs
 
--- what the fields of a line must be, after the first
+-- What the fields of a line must be, after the first: of an edge in a game with so many locations and clocks with
+-- these ceilings, of a row, and of each kind
+
+abbrev pub edgeForms : ℕ → List ℕ → List Form
+edgeForms locations ceilings = Owner ∷ End locations ∷ End locations ∷ Letters (length ceilings) ∷ map Interval ceilings
+
+abbrev pub rowEnd : List Form
+rowEnd = Number 0 maxSteps ∷ Choice ∷ replicate 4 (Number 0 maxRank)
+
+abbrev pub rowForms : List ℕ → List Form
+rowForms ceilings = Number 0 maxLocation ∷ Number 0 maxPriority ∷ (standings ceilings ++ rowEnd)
+
 abbrev pub rest : Said → Kind → List Form
 rest s Clock = Number 1 maxCeiling ∷ []
 rest s Loc = Number 0 maxPriority ∷ map Interval (s .ceilings)
-rest s Edge = Owner ∷ End (length (s .locations)) ∷ End (length (s .locations)) ∷ Letters (length (s .ceilings)) ∷ map Interval (s .ceilings)
-rest s Row = Number 0 maxLocation ∷ Number 0 maxPriority ∷ (standings (s .ceilings) ++ Number 0 maxSteps ∷ Choice ∷ replicate 4 (Number 0 maxRank))
+rest s Edge = edgeForms (length (s .locations)) (s .ceilings)
+rest s Row = rowForms (s .ceilings)
 
 abbrev pub forms : Said → Kind → List Form
 forms s k = Head (outOfPlace s k) ∷ rest s k

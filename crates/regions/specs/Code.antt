@@ -21,6 +21,10 @@ tickCeiling = 1
 abbrev pub parts : Ceilings → Region → List Part
 parts c r = partOf (c .x) (r .x) ∷ partOf (c .y) (r .y) ∷ partOf (c .z) (r .z) ∷ partOf tickCeiling (r .tick) ∷ []
 
+-- the same where ceilings do not matter, as for the classes
+abbrev pub unceiled : Region → List Part
+unceiled r = parts (record { x = 0; y = 0; z = 0 }) r
+
 abbrev pub limits : Ceilings → List ℕ
 limits c = c .x ∷ c .y ∷ c .z ∷ tickCeiling ∷ []
 
@@ -42,3 +46,14 @@ isOwn r = every within r && eqb (upto (seen r) (top r)) (top r)
 -- no ceiling is above 15 units
 abbrev pub ceiled : Ceilings → Bool
 ceiled c = every (λ u. leb u 15) (limits c)
+
+-- the whole parts and classes are those of a region of clocks with these ceilings
+abbrev pub proper : Ceilings → Region → Bool
+proper c r = ceiled c && isOwn (parts c r)
+
+-- small enough to count on
+abbrev pub Small : ℕ → ClockRegion → Type 0
+Small c m = (c ≤ 15) × (m .whole ≤ 16) × (m .class ≤ 4)
+
+abbrev pub Smalls : Ceilings → Region → Type 0
+Smalls c r = Small (c .x) (r .x) × Small (c .y) (r .y) × Small (c .z) (r .z) × Small tickCeiling (r .tick)

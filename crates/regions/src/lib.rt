@@ -1,2 +1,4 @@
 //! Regions of up to three clocks and the tick clock, as the program has them.
+mod clock;
 pub mod region;
+pub mod standing;

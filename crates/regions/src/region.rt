@@ -1,5 +1,11 @@
 //! Where clocks stand.
 
+/// The highest ceiling that a clock may have.
+pub const HIGHEST_CEILING: u8 = 15;
+
+/// The ceiling of the tick clock.
+pub const TICK_CEILING: u8 = 1;
+
 /// Where one clock stands: its whole part, and its class, which orders the fractions.
 #[derive(Clone, Copy, PartialEq, Eq)]
 pub struct ClockRegion {

@@ -1,0 +1,10 @@
+pub mod Listings
+pub mod Sounds
+pub mod Rises
+pub mod Outcomes
+pub mod Laws
+pub mod Lawfuls
+pub mod Readings
+pub mod Absents
+pub mod Shorts
+pub mod Starts

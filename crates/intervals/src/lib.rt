@@ -1,0 +1,3 @@
+//! Intervals that contain a reading.
+pub mod interval;
+pub mod rows;
