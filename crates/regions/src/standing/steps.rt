@@ -5,13 +5,13 @@ use crate::region::Region;
 use crate::region::Restart;
 use crate::region::TICK_CEILING;
 ghost use mathlib.Core.Path.{_≡_};
-ghost use mathlib.Core.Bool.{cond};
+ghost use mathlib.Core.Bool.{true};
 ghost use lib.Dec.{ltb};
-ghost use Rattle.std.specs.Options.{mapped};
-ghost use Rattle.std.specs.declared.option.Option.the-variants.{Some, None};
+ghost use Rattle.std.specs.Options.{mapped, isSome};
+ghost use Rattle.std.specs.Slices.{found};
 ghost use Rattle.clocks.specs.Regions.{some, resting, rising, ranked, zeroed, next, waits};
 ghost use Rattle.regions.specs.Code.{parts, flags, proper, isOwn, Smalls};
-ghost use Rattle.regions.specs.Standing.{standing, fields};
+ghost use Rattle.regions.specs.Standing.{standing};
 
 /// Whether whole parts and classes are those of a region of clocks with these ceilings.
 fn is_own(c: Ceilings, region: Region) -> bool
@@ -28,7 +28,8 @@ fn is_own(c: Ceilings, region: Region) -> bool
 impl Clocks {
     /// Clocks with these ceilings that stand in this region, if it is one of theirs.
     pub fn new(ceilings: Ceilings, region: Region) -> Option<Clocks>
-        ensures { λ r. ⌜ mapped fields r ≡ cond (proper ceilings region) (Some (ceilings, region)) None ⌝ }
+        ensures test { λ r. ⌜ isSome r ≡ proper ceilings region ⌝ }
+        ensures fields { λ r. ⌜ found r (λ s. (s .ceilings ≡ ceilings) × (s .region ≡ region)) ⌝ }
     {
         if ceilings.are_allowed() && is_own(ceilings, region) {
             Some(Clocks { ceilings, region })
@@ -125,7 +126,8 @@ impl Clocks {
     }
 
     fn restarted_region(self, restart: Restart) -> Region
-        ensures { λ r. ⌜ parts (self .ceilings) r ≡ ranked (zeroed (flags restart) (standing self)) ⌝ }
+        ensures own { λ r. ⌜ proper (self .ceilings) r ≡ true ⌝ }
+        ensures parts { λ r. ⌜ parts (self .ceilings) r ≡ ranked (zeroed (flags restart) (standing self)) ⌝ }
     {
         let at = self.zeroed_region(restart);
         Region {

@@ -1,7 +1,6 @@
 //! The timed game as an arena.
 use super::TimedGame;
 use super::listing::TimedListing;
-use crate::zones::item_at;
 use arena::arena::Arena;
 use arena::moves::Move;
 use arena::moves::Outcome;
@@ -10,6 +9,7 @@ use game::parts::TimedPosition;
 use regions::region::ClockRegion;
 use regions::region::Region;
 use regions::region::TICK_CEILING;
+use soundness::items::item_at;
 ghost use mathlib.Core.Path.{_≡_};
 ghost use Rattle.std.specs.declared.option.Option.the-variants.{Some};
 ghost use Rattle.game.specs.Game.{fresh};

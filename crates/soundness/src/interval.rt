@@ -1,13 +1,13 @@
-//! Intervals.
-use crate::rows::is_inhabited;
+//! Intervals that contain a reading.
+use crate::bounds::is_inhabited;
 use game::bounds::Bounds;
 use regions::region::ClockRegion;
 ghost use mathlib.Core.Path.{_≡_};
-ghost use mathlib.Core.Bool.{true, not, cond};
+ghost use mathlib.Core.Bool.{true, not};
 ghost use Rattle.game.specs.Intervals.{inhabited, equals, exceeds, meetsLow, meetsHigh, meets};
-ghost use Rattle.std.specs.Options.{mapped};
-ghost use Rattle.std.specs.declared.option.Option.the-variants.{Some, None};
-ghost use Rattle.intervals.specs.Clock.{stands};
+ghost use Rattle.std.specs.Options.{isSome};
+ghost use Rattle.std.specs.Slices.{found};
+ghost use Rattle.soundness.specs.Clock.{stands};
 
 /// An interval that contains at least one reading, fractions counted.
 #[derive(Clone, Copy)]
@@ -33,7 +33,8 @@ fn is_above(clock: ClockRegion, number: u8) -> bool
 impl Interval {
     /// The interval with these bounds, if it contains a reading.
     pub fn new(bounds: Bounds) -> Option<Interval>
-        ensures { λ r. ⌜ mapped (λ i. i .bounds) r ≡ cond (inhabited bounds) (Some bounds) None ⌝ }
+        ensures test { λ r. ⌜ isSome r ≡ inhabited bounds ⌝ }
+        ensures bounds { λ r. ⌜ found r (λ i. i .bounds ≡ bounds) ⌝ }
     {
         if is_inhabited(bounds) {
             Some(Interval { bounds })

@@ -1,8 +1,8 @@
 use mathlib.Core.Bool.{true, false}
 use native.Mathlib.Omega.{arith}
 use Rattle.game.specs.Game.{soundEdge}
-use Rattle.timed.proofs.Tables.{every-more, every-end}
-use Rattle.timed.proofs.timed_game.making.are_sound_edges.Needs as need
+use Rattle.soundness.proofs.Lists.{every-more, every-end}
+use Rattle.soundness.proofs.tables.are_sound_edges.Needs as need
 
 pub returns-then-not-is-sound-edge : need.returns-then-not-is-sound-edge
 returns-then-not-is-sound-edge c = every-more (soundEdge (c .args .c) (c .args .locations)) (c .args .edges .now) (c .loop-edge .edge-index) _ false (c .loop-edge-test .taken) (c .if-not-is-sound-edge .ensures tt) (c .loop-edge .inv)
