@@ -42,12 +42,14 @@ fn is_resetting(resets: Resets, c: Ceilings) -> bool
     (c.x > 0 || !resets.x) && (c.y > 0 || !resets.y) && (c.z > 0 || !resets.z)
 }
 
+/// Whether priority and invariant are within the rules.
 fn is_sound_location(location: Location, c: Ceilings) -> bool
     ensures { λ r. ⌜ r ≡ soundLocation c location ⌝ }
 {
     location.priority <= HIGHEST_PRIORITY && is_suited(location.invariant, c)
 }
 
+/// Whether both ends are there, and resets and guard are within the rules.
 fn is_sound_edge(edge: Edge, c: Ceilings, locations: usize) -> bool
     ensures { λ r. ⌜ r ≡ soundEdge c locations edge ⌝ }
 {
@@ -57,6 +59,7 @@ fn is_sound_edge(edge: Edge, c: Ceilings, locations: usize) -> bool
         && is_suited(edge.guard, c)
 }
 
+/// Whether all locations are within the rules.
 fn are_sound_locations(locations: &[Location], c: Ceilings) -> bool
     ensures { λ r. ⌜ r ≡ every (soundLocation c) (now (locations .entry)) ⌝ }
 {
@@ -68,6 +71,7 @@ fn are_sound_locations(locations: &[Location], c: Ceilings) -> bool
     true
 }
 
+/// Whether all edges are within the rules.
 fn are_sound_edges(edges: &[Edge], c: Ceilings, locations: usize) -> bool
     ensures { λ r. ⌜ r ≡ every (soundEdge c locations) (now (edges .entry)) ⌝ }
 {

@@ -45,6 +45,7 @@ impl Clocks {
         self.region.tick.whole > 0
     }
 
+    /// Whether some clock is not past, at class 0.
     fn some_rest(self) -> bool
         ensures { λ r. ⌜ r ≡ some resting (standing self) ⌝ }
     {
@@ -55,6 +56,7 @@ impl Clocks {
             || at.tick.is_resting(TICK_CEILING)
     }
 
+    /// Whether some clock is below its ceiling, at class 0.
     fn some_rise(self) -> bool
         ensures { λ r. ⌜ r ≡ some rising (standing self) ⌝ }
     {
@@ -65,6 +67,7 @@ impl Clocks {
             || at.tick.is_rising(TICK_CEILING)
     }
 
+    /// The next region, if there is one.
     fn next_region(self) -> Option<Region>
         requires { ⌜ Smalls (self .ceilings) (self .region) ⌝ }
         ensures { λ r. ⌜ mapped (parts (self .ceilings)) r ≡ next (standing self) ⌝ }
@@ -113,6 +116,7 @@ impl Clocks {
         Some(clocks)
     }
 
+    /// The region once these clocks have gone back to zero, before the classes close up.
     fn zeroed_region(self, restart: Restart) -> Region
         ensures { λ r. ⌜ parts (self .ceilings) r ≡ zeroed (flags restart) (standing self) ⌝ }
     {
@@ -125,9 +129,10 @@ impl Clocks {
         }
     }
 
+    /// The region once these clocks have gone back to zero.
     fn restarted_region(self, restart: Restart) -> Region
         ensures own { λ r. ⌜ proper (self .ceilings) r ≡ true ⌝ }
-        ensures parts { λ r. ⌜ parts (self .ceilings) r ≡ ranked (zeroed (flags restart) (standing self)) ⌝ }
+        ensures is { λ r. ⌜ parts (self .ceilings) r ≡ ranked (zeroed (flags restart) (standing self)) ⌝ }
     {
         let at = self.zeroed_region(restart);
         Region {

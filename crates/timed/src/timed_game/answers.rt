@@ -18,7 +18,7 @@ ghost use Rattle.std.specs.Options.{isSome};
 ghost use Rattle.std.specs.Slices.{found};
 ghost use Rattle.std.specs.declared.option.Option.the-variants.{Some, None};
 ghost use Rattle.regions.specs.Standing.{standing};
-ghost use Rattle.game.specs.Game.{Game, keeps, owns, lastWhole, carried, flags, result, fits, mayTake, edgeAt, legal};
+ghost use Rattle.game.specs.Game.{Game, place, ticks, keeps, owns, lastWhole, carried, flags, result, fits, mayTake, edgeAt, legal};
 ghost use Rattle.game.specs.Timed.{placeOf, inCode};
 ghost use Rattle.timed.specs.Rows.{habitable};
 ghost use Rattle.timed.specs.Carried.{reached, carriedOut};
@@ -47,18 +47,26 @@ fn carry(clocks: Clocks, resets: Resets) -> Clocks
     })
 }
 
-/// What a plain wait comes to, once these clocks are reached.
-pub(super) fn wait_in(by: Side, location: u8, clocks: Clocks) -> Outcome<TimedPosition>
-    ensures { λ r. ⌜ ((g : Game) → r ≡ inCode (result g by location None (standing clocks))) ⌝ }
+/// The outcome of a move that leads to this location, by the clocks before and after it is carried
+/// out.
+fn outcome_at(by: Side, location: u8, before: Clocks, after: Clocks) -> Outcome<TimedPosition>
+    ensures { λ r. ⌜ r ≡ inCode (record { position = place location (standing after); ticked = ticks (standing before); by = by }) ⌝ }
 {
     Outcome {
         position: TimedPosition {
             location,
-            region: carry(clocks, NO_RESETS).region(),
+            region: after.region(),
         },
-        ticked: clocks.ticked(),
+        ticked: before.ticked(),
         by,
     }
+}
+
+/// What a plain wait comes to, once these clocks are reached.
+pub(super) fn wait_in(by: Side, location: u8, clocks: Clocks) -> Outcome<TimedPosition>
+    ensures { λ r. ⌜ ((g : Game) → r ≡ inCode (result g by location None (standing clocks))) ⌝ }
+{
+    outcome_at(by, location, clocks, carry(clocks, NO_RESETS))
 }
 
 impl TimedGame {
@@ -111,14 +119,7 @@ impl TimedGame {
         if !self.keeps(edge.to, after) {
             return None;
         }
-        Some(Outcome {
-            position: TimedPosition {
-                location: edge.to,
-                region: after.region(),
-            },
-            ticked: clocks.ticked(),
-            by,
-        })
+        Some(outcome_at(by, edge.to, clocks, after))
     }
 
     /// What the edge of a number, or no edge, comes to where this side may take it.

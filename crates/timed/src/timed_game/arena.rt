@@ -32,6 +32,7 @@ fn same_clock(a: ClockRegion, b: ClockRegion) -> bool
     a.whole == b.whole && a.class == b.class
 }
 
+// each question answers by the meaning of the game's tables
 pub impl Arena for TimedGame as TimedArena {
     type Position = TimedPosition;
 
@@ -96,18 +97,18 @@ pub impl Arena for TimedGame as TimedArena {
     }
 
     fn count(&self, p: &TimedPosition, m: Move) -> u16 {
-        let mut listing = self.list_outcomes(*p, m);
+        let mut listing = self.list(p, m);
         let mut count = 0;
-        while let Some(_) = self.next_outcome(&mut listing) {
+        while let Some(_) = self.next(&mut listing) {
             count += 1;
         }
         count
     }
 
     fn outcome(&self, p: &TimedPosition, m: Move, i: u16) -> Option<Outcome<TimedPosition>> {
-        let mut listing = self.list_outcomes(*p, m);
+        let mut listing = self.list(p, m);
         let mut left = i;
-        while let Some(outcome) = self.next_outcome(&mut listing) {
+        while let Some(outcome) = self.next(&mut listing) {
             if left == 0 {
                 return Some(outcome);
             }

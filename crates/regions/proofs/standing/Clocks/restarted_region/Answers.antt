@@ -10,4 +10,4 @@ returns c =
     let r : Region = record { x = c .close-up .result; y = c .close-up-2 .result; z = c .close-up-3 .result; tick = c .close-up-4 .result } in
     let closed : parts (c .args .self .ceilings) r ≡ ranked (parts (c .args .self .ceilings) (c .zeroed-region-at .result)) = cc in
     let e = closed ∙ ap ranked (c .zeroed-region-at .ensures) in
-    record { own = proper-restarted (c .args .self .ceilings) (c .args .self .region) (c .args .self .ok) (flags (c .args .restart)) r e; parts = e }
+    record { own = proper-restarted (c .args .self .ceilings) (c .args .self .region) (c .args .self .ok) (flags (c .args .restart)) r e; is = e }
