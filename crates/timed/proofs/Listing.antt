@@ -18,7 +18,7 @@ use Rattle.arena.specs.Meaning.{handed}
 use Rattle.clocks.specs.Regions.{Part, next}
 use Rattle.game.specs.declared.parts.Edge.{Edge}
 use Rattle.game.specs.declared.parts.TimedPosition.{TimedPosition}
-use Rattle.game.specs.Game.{Game, Place, owns, fits, given, legal, result, edgeAt, theirEdge, oursAt, outcomes, sound}
+use Rattle.game.specs.Game.{Game, Place, fits, given, legal, result, edgeAt, theirEdge, oursAt, outcomes, sound}
 use Rattle.game.specs.Listing.{edgesFrom, theirsOver, theirsAfter}
 use Rattle.game.specs.Timed.{placeOf, inCode, timedMeaning}
 use Rattle.game.proofs.Outcomes.{allowed}
@@ -35,12 +35,11 @@ module _ (g : Game) (p : TimedPosition) (m : Move) where
       let n : legal g Us (placeOf g p) (m .steps) (m .edge) ≡ false = sym (legal-some g Us p m) ∙ ap isSome (sym e) in
       rw n refl
 
-  pub first-listed : (o : Outcome TimedPosition) (q : List Part) → Some q ≡ cond (owns g (placeOf g p)) (Some (placeOf g p .region)) None → Some o ≡ carriedOut g Us p m
+  pub first-listed : (o : Outcome TimedPosition) (q : List Part) → q ≡ placeOf g p .region → Some o ≡ carriedOut g Us p m
       → o ∷ map inCode (theirsOver g (p .location) (m .steps) (Some q)) ≡ timedMeaning g .outcomes p m
-  first-listed o q c e =
+  first-listed o q i e =
       let l : legal g Us (placeOf g p) (m .steps) (m .edge) ≡ true = sym (legal-some g Us p m) ∙ ap isSome (sym e) in
       let a = allowed g Us (p .location) (placeOf g p .region) (m .steps) (m .edge) l in
-      let i : q ≡ placeOf g p .region = some-when (owns g (placeOf g p)) q (placeOf g p .region) c .1 in
       let f : Some o ≡ Some (inCode (result g Us (p .location) (edgeAt g (m .edge)) (a .reached))) = rw (l, a .waited) at e in
       let d : o ≡ inCode (result g Us (p .location) (edgeAt g (m .edge)) (a .reached)) = cc in
       let t : outcomes g (placeOf g p) (m .steps) (m .edge) ≡ result g Us (p .location) (edgeAt g (m .edge)) (a .reached) ∷ theirsOver g (p .location) (m .steps) (Some (placeOf g p .region)) =

@@ -1,22 +1,14 @@
 -- A game's tables, and what a sound game has in them.
-use mathlib.Core.Path.{_≡_, refl, sym, ap, _∙_}
-use mathlib.Core.List.{List}
+use mathlib.Core.Path.{_≡_, refl, sym}
 use mathlib.Core.Bool.{Bool, true, false, cond, _&&_, _||_}
-use Prim.Native.Nat.{ℕ, _+_, _≤_, _<_}
+use Prim.Native.Nat.{ℕ}
 use native.Mathlib.Omega.{arith}
 use lib.Dec.{leb, ltb}
-use lib.ListN.{length, getD, drop}
-use denote.Ref.{RefT, now}
-use Rattle.std.specs.Places.{Item}
-use Rattle.std.specs.Options.{mapped}
+use lib.ListN.{length}
 use Rattle.std.specs.Finite.{nth}
-use Rattle.std.specs.declared.option.Option.{Option}
 use Rattle.std.specs.declared.option.Option.the-variants.{Some, None}
-use Rattle.std.proofs.shelf.Lists.{at-drop-more, at-drop-all}
-use Rattle.std.proofs.shelf.Maps.{nth-read, nth-past}
 use Rattle.std.proofs.shelf.Tests.{and-parts, and-from}
 use Rattle.regions.specs.declared.region.Ceilings.{Ceilings}
-use Rattle.regions.specs.Code.{every}
 use Rattle.game.specs.declared.bounds.Bounds.{Bounds}
 use Rattle.game.specs.declared.bounds.Zone.{Zone}
 use Rattle.game.specs.declared.parts.Location.{Location}
@@ -24,9 +16,7 @@ use Rattle.game.specs.declared.parts.Edge.{Edge}
 use Rattle.game.specs.Intervals.{inhabited, bounded, everywhere, fitting}
 use Rattle.game.specs.Game.{Game, suits, resetting, soundLocation, soundEdge, sound}
 use Rattle.game.proofs.Sounds.{every-all, nth-all, sound-made, sound-edge}
-use Rattle.game.specs.Start.{wellMade, startsAtZero}
-use Rattle.game.proofs.Starts.{starts}
-use Rattle.timed.specs.Rows.{habitable, soundly}
+use Rattle.timed.specs.Rows.{habitable}
 
 -- a value that is there only under a test
 pub some-when : {A : Type 0} (b : Bool) (x y : A) → Some x ≡ cond b (Some y) None → (b ≡ true) × (x ≡ y)
@@ -36,26 +26,6 @@ some-when false x y e = let z : _≡_ {A = ℕ} 0 1 = cc in let w : ⊥ = omega 
 pub none-when : {A : Type 0} (b : Bool) (y : A) → None ≡ cond b (Some y) None → b ≡ false
 none-when true y e = let z : _≡_ {A = ℕ} 0 1 = cc in let w : ⊥ = omega arith in absurd w
 none-when false y e = refl
-
--- an element that is looked up
-pub read-nth : {A : Type 0} (xs : List A) (i : ℕ) (x : A) → i < length xs → x ≡ getD xs i x → Some x ≡ nth xs i
-read-nth xs i x l e = sym (nth-read xs (length xs) i x refl l e)
-
-pub item-nth : {A : Type 0} (xs : List A) (i : ℕ) (r : Option (RefT A)) → Item xs i i r → mapped now r ≡ nth xs i
-item-nth xs i None h = sym (nth-past xs i (h .3))
-item-nth xs i (Some x) h = read-nth xs i (x .now) (h .3 .0) (h .1)
-
--- elements looked at one by one
-pub every-more : {A : Type 0} (p : A → Bool) (xs : List A) (i : ℕ) (x : A) (b : Bool) → i < length xs → b ≡ p (getD xs i x) → every p (drop i xs) ≡ every p xs
-    → (b && every p (drop (i + 1) xs)) ≡ every p xs
-every-more p xs i x b l h k = ap (λ t. t && every p (drop (i + 1) xs)) h ∙ sym (at-drop-more (every p) xs i x l) ∙ k
-
-pub every-end : {A : Type 0} (p : A → Bool) (xs : List A) (i : ℕ) → length xs ≤ i → every p (drop i xs) ≡ every p xs → true ≡ every p xs
-every-end p xs i l k = sym (at-drop-all (every p) xs i l) ∙ k
-
--- a game that is not sound
-pub unsound : (g : Game) → (wellMade g && startsAtZero (g .locations)) ≡ false → None ≡ soundly g
-unsound g h = let n : sound g ≡ false = starts g ∙ h in rw n refl
 
 -- rows of a sound game
 suited : (c : Ceilings) (z : Zone) → suits c z ≡ true → habitable z ≡ true

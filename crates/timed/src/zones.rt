@@ -1,21 +1,13 @@
-//! Rows of a game's tables, read.
+//! Invariants and guards, from rows that have been checked.
 use game::bounds::Bounds;
 use game::bounds::Zone;
-use intervals::interval::Interval;
 use regions::standing::Clocks;
+use soundness::interval::Interval;
 ghost use mathlib.Core.Path.{_≡_};
 ghost use mathlib.Core.Bool.{true};
-ghost use Rattle.std.specs.Finite.{nth};
 ghost use Rattle.regions.specs.Standing.{standing};
 ghost use Rattle.game.specs.Intervals.{zone, inhabited, holds};
 ghost use Rattle.timed.specs.Rows.{habitable};
-
-/// The element at a number, if there is one.
-pub(crate) fn item_at<T: Copy>(items: &[T], number: usize) -> Option<T>
-    ensures { λ r. ⌜ r ≡ nth (now (items .entry)) number ⌝ }
-{
-    items.get(number).copied()
-}
 
 /// The interval of a row that has been checked.
 fn interval_of(row: Bounds) -> Interval

@@ -1,7 +1,6 @@
 //! Own positions, and moves of both sides.
 use super::TimedGame;
 use crate::zones::is_met;
-use crate::zones::item_at;
 use arena::moves::Move;
 use arena::moves::Outcome;
 use arena::moves::Side;
@@ -11,12 +10,15 @@ use game::parts::Resets;
 use game::parts::TimedPosition;
 use regions::region::Restart;
 use regions::standing::Clocks;
+use soundness::items::item_at;
 ghost use mathlib.Core.Path.{_≡_};
-ghost use mathlib.Core.Bool.{cond, true};
-ghost use Rattle.std.specs.Options.{mapped};
+ghost use mathlib.Core.Bool.{cond, true, _&&_};
+ghost use lib.Dec.{eqb};
+ghost use Rattle.std.specs.Options.{isSome};
+ghost use Rattle.std.specs.Slices.{found};
 ghost use Rattle.std.specs.declared.option.Option.the-variants.{Some, None};
 ghost use Rattle.regions.specs.Standing.{standing};
-ghost use Rattle.game.specs.Game.{Game, keeps, owns, carried, flags, result, fits, mayTake, edgeAt, legal};
+ghost use Rattle.game.specs.Game.{Game, place, ticks, keeps, owns, lastWhole, carried, flags, result, fits, mayTake, edgeAt, legal};
 ghost use Rattle.game.specs.Timed.{placeOf, inCode};
 ghost use Rattle.timed.specs.Rows.{habitable};
 ghost use Rattle.timed.specs.Carried.{reached, carriedOut};
@@ -45,18 +47,26 @@ fn carry(clocks: Clocks, resets: Resets) -> Clocks
     })
 }
 
-/// What a plain wait comes to, once these clocks are reached.
-pub(super) fn wait_in(by: Side, location: u8, clocks: Clocks) -> Outcome<TimedPosition>
-    ensures { λ r. ⌜ ((g : Game) → r ≡ inCode (result g by location None (standing clocks))) ⌝ }
+/// The outcome of a move that leads to this location, by the clocks before and after it is carried
+/// out.
+fn outcome_at(by: Side, location: u8, before: Clocks, after: Clocks) -> Outcome<TimedPosition>
+    ensures { λ r. ⌜ r ≡ inCode (record { position = place location (standing after); ticked = ticks (standing before); by = by }) ⌝ }
 {
     Outcome {
         position: TimedPosition {
             location,
-            region: carry(clocks, NO_RESETS).region(),
+            region: after.region(),
         },
-        ticked: clocks.ticked(),
+        ticked: before.ticked(),
         by,
     }
+}
+
+/// What a plain wait comes to, once these clocks are reached.
+pub(super) fn wait_in(by: Side, location: u8, clocks: Clocks) -> Outcome<TimedPosition>
+    ensures { λ r. ⌜ ((g : Game) → r ≡ inCode (result g by location None (standing clocks))) ⌝ }
+{
+    outcome_at(by, location, clocks, carry(clocks, NO_RESETS))
 }
 
 impl TimedGame {
@@ -70,15 +80,25 @@ impl TimedGame {
         }
     }
 
+    /// Whether the clocks are those of an own position at this location: the tick clock has not
+    /// reached a unit, and the invariant holds.
+    fn is_own(&self, location: u8, clocks: Clocks) -> bool
+        ensures { λ r. ⌜ r ≡ (eqb (lastWhole (standing clocks)) 0 && keeps (gameOf (now (self .entry))) location (standing clocks)) ⌝ }
+    {
+        !clocks.ticked() && self.keeps(location, clocks)
+    }
+
     /// The clocks of an own position.
     pub(super) fn clocks_at(&self, p: TimedPosition) -> Option<Clocks>
-        ensures { λ r. ⌜ mapped standing r ≡ cond (owns (gameOf (now (self .entry))) (placeOf (gameOf (now (self .entry))) p)) (Some (placeOf (gameOf (now (self .entry))) p .region)) None ⌝ }
+        ensures test { λ r. ⌜ isSome r ≡ owns (gameOf (now (self .entry))) (placeOf (gameOf (now (self .entry))) p) ⌝ }
+        ensures stands { λ r. ⌜ found r (λ s. standing s ≡ placeOf (gameOf (now (self .entry))) p .region) ⌝ }
     {
         let clocks = Clocks::new(self.ceilings, p.region)?;
-        if clocks.ticked() || !self.keeps(p.location, clocks) {
-            return None;
+        if self.is_own(p.location, clocks) {
+            Some(clocks)
+        } else {
+            None
         }
-        Some(clocks)
     }
 
     /// What an edge comes to where this side may take it.
@@ -99,14 +119,7 @@ impl TimedGame {
         if !self.keeps(edge.to, after) {
             return None;
         }
-        Some(Outcome {
-            position: TimedPosition {
-                location: edge.to,
-                region: after.region(),
-            },
-            ticked: clocks.ticked(),
-            by,
-        })
+        Some(outcome_at(by, edge.to, clocks, after))
     }
 
     /// What the edge of a number, or no edge, comes to where this side may take it.
@@ -148,7 +161,8 @@ impl TimedGame {
 
     /// What a move of this side comes to, if it is legal.
     pub fn carry_out(&self, by: Side, p: TimedPosition, m: Move) -> Option<Outcome<TimedPosition>>
-        ensures { λ r. ⌜ r ≡ carriedOut (gameOf (now (self .entry))) by p m ⌝ }
+        ensures test { λ r. ⌜ isSome r ≡ legal (gameOf (now (self .entry))) by (placeOf (gameOf (now (self .entry))) p) (m .steps) (m .edge) ⌝ }
+        ensures result { λ r. ⌜ r ≡ carriedOut (gameOf (now (self .entry))) by p m ⌝ }
     {
         let clocks = self.clocks_at(p)?;
         self.carry_out_from(by, p.location, clocks, m)

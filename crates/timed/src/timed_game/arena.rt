@@ -1,7 +1,6 @@
 //! The timed game as an arena.
 use super::TimedGame;
 use super::listing::TimedListing;
-use crate::zones::item_at;
 use arena::arena::Arena;
 use arena::moves::Move;
 use arena::moves::Outcome;
@@ -10,6 +9,7 @@ use game::parts::TimedPosition;
 use regions::region::ClockRegion;
 use regions::region::Region;
 use regions::region::TICK_CEILING;
+use soundness::items::item_at;
 ghost use mathlib.Core.Path.{_≡_};
 ghost use Rattle.std.specs.declared.option.Option.the-variants.{Some};
 ghost use Rattle.game.specs.Game.{fresh};
@@ -32,6 +32,7 @@ fn same_clock(a: ClockRegion, b: ClockRegion) -> bool
     a.whole == b.whole && a.class == b.class
 }
 
+// each question answers by the meaning of the game's tables
 pub impl Arena for TimedGame as TimedArena {
     type Position = TimedPosition;
 
@@ -96,18 +97,18 @@ pub impl Arena for TimedGame as TimedArena {
     }
 
     fn count(&self, p: &TimedPosition, m: Move) -> u16 {
-        let mut listing = self.list_outcomes(*p, m);
+        let mut listing = self.list(p, m);
         let mut count = 0;
-        while let Some(_) = self.next_outcome(&mut listing) {
+        while let Some(_) = self.next(&mut listing) {
             count += 1;
         }
         count
     }
 
     fn outcome(&self, p: &TimedPosition, m: Move, i: u16) -> Option<Outcome<TimedPosition>> {
-        let mut listing = self.list_outcomes(*p, m);
+        let mut listing = self.list(p, m);
         let mut left = i;
-        while let Some(outcome) = self.next_outcome(&mut listing) {
+        while let Some(outcome) = self.next(&mut listing) {
             if left == 0 {
                 return Some(outcome);
             }

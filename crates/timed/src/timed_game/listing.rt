@@ -38,6 +38,7 @@ pub struct TimedListing {
 }
 
 impl TimedGame {
+    /// Our outcome, with theirs to come, if the move is legal.
     fn first_stage(&self, p: TimedPosition, m: Move) -> Option<Stage>
         ensures { λ r. ⌜ rest (gameOf (now (self .entry))) (p .location) (m .steps) r ≡ timedMeaning (gameOf (now (self .entry))) .outcomes p m ⌝ }
     {

@@ -5,7 +5,8 @@ use Rattle.std.specs.Of.Vec.{vec-items}
 use Rattle.regions.specs.Standing.{standing}
 use Rattle.game.specs.Timed.{inCode}
 use Rattle.timed.specs.Code.{gameOf}
-use Rattle.timed.proofs.Tables.{read-nth, guard-checked}
+use Rattle.soundness.proofs.Lists.{read-nth}
+use Rattle.timed.proofs.Tables.{guard-checked}
 use Rattle.timed.proofs.Listing.{edge-given, edge-passed}
 use Rattle.timed.proofs.timed_game.TimedGame.next_edge.Needs as need
 

@@ -7,4 +7,4 @@ use Rattle.timed.proofs.timed_game.arena.TimedArena.count.Needs as need
 
 pub add-count : need.add-count
 add-count c =
-    omega (arith, outcomes-bound (gameOf (c .args .self .now)) (c .args .self .now .ok) (c .args .p .now) (c .args .m), ap length (c .list-outcomes-listing .ensures), ap length (c .in-Some .ensures tt))
+    omega (arith, outcomes-bound (gameOf (c .args .self .now)) (c .args .self .now .ok) (c .args .p .now) (c .args .m), ap length (c .list-listing .ensures), ap length (c .in-Some .ensures tt))

@@ -8,5 +8,5 @@ use Rattle.timed.proofs.timed_game.arena.TimedArena.outcome.Needs as need
 pub loop-outcome-again : need.loop-outcome-again
 loop-outcome-again c =
     c .loop-outcome .inv
-    ∙ nth-after (restOf (gameOf (c .args .self .now)) (c .loop-outcome .listing)) (restOf (gameOf (c .args .self .now)) (c .next-outcome .last .listing)) (c .in-Some .outcome) (c .loop-outcome .left)
+    ∙ nth-after (restOf (gameOf (c .args .self .now)) (c .loop-outcome .listing)) (restOf (gameOf (c .args .self .now)) (c .next .last .listing)) (c .in-Some .outcome) (c .loop-outcome .left)
     (c .in-Some .ensures tt) (omega arith)

@@ -1,3 +1,0 @@
-//! Intervals that contain a reading.
-pub mod interval;
-pub mod rows;

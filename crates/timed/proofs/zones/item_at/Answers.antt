@@ -1,6 +1,0 @@
-use mathlib.Core.Path.{_∙_}
-use Rattle.timed.proofs.Tables.{item-nth}
-use Rattle.timed.proofs.zones.item_at.Needs as need
-
-pub returns : need.returns
-returns g c = c .copied .ensures ∙ item-nth (c .args .items .now) (c .args .number) (c .get .result) (c .get .ensures .finds)
