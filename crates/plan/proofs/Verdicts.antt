@@ -1,23 +1,19 @@
 -- What the check answers, from what its parts answer.
-use mathlib.Core.Path.{_≡_, refl, sym, ap}
-use mathlib.Core.List.{List, [], _∷_, _++_}
-use Prim.Native.Nat.{ℕ, _+_, _*_, _<_, _≤_}
-use native.Mathlib.Omega.{arith}
-use native.Mathlib.Numerals.{add-one}
-use lib.ListN.{length, getD, drop}
+use mathlib.Core.Path.{_≡_, ap}
+use mathlib.Core.List.{List, []}
+use Prim.Native.Nat.{ℕ, _*_, _≤_}
+use lib.ListN.{length}
 use Rattle.std.specs.Orderings.{Decides}
 use Rattle.std.specs.Results.{isOk}
 use Rattle.std.specs.declared.result.Result.{Result}
 use Rattle.std.specs.declared.result.Result.the-variants.{Ok, Err}
 use Rattle.std.proofs.shelf.Lists.{append-nil}
 use Rattle.std.proofs.shelf.Tests.{le-ltb, eq-eqb}
-use Rattle.std.proofs.shelf.Sums.{sumBy-drop-more}
 use Rattle.std.proofs.shelf.Ways.{decides-at}
 use Rattle.arena.specs.Meaning.{Meaning, Lawful}
 use Rattle.table.specs.declared.row.Row.{Row}
 use Rattle.table.specs.declared.accepted.Accepted.{Accepted}
 use Rattle.table.specs.declared.fault.Fault.{Fault}
-use Rattle.table.specs.Rows.{outcomesOf}
 use Rattle.table.specs.Ranks.{keeps}
 use Rattle.table.specs.Check.{numbered, verdict, placeFaults, startFaults, moveFaults, outcomesIn, checked}
 use Rattle.table.specs.Accepts.{Accepts}

@@ -1,9 +1,9 @@
 -- A table without faults is one that is accepted in so many words, and the other way round.
-use mathlib.Core.Path.{_≡_, refl, sym, ap, subst, _∙_}
-use mathlib.Core.Bool.{Bool, true, false, not, cond, _&&_, _||_}
+use mathlib.Core.Path.{_≡_, refl, sym, subst, _∙_}
+use mathlib.Core.Bool.{Bool, true, false, not, cond}
 use mathlib.Core.Logic.{_⊎_, inl, inr, ⊎-elim}
-use mathlib.Core.List.{List, [], _∷_, _++_}
-use Prim.Native.Nat.{ℕ, zero, suc, _+_, _*_, _%_, _<_, _≤_}
+use mathlib.Core.List.{List, [], _∷_}
+use Prim.Native.Nat.{ℕ, _*_, _%_, _<_, _≤_}
 use native.Mathlib.Omega.{arith}
 use lib.Dec.{ltb, leb, eqb}
 use lib.ListN.{length}
@@ -13,19 +13,19 @@ use Rattle.std.specs.Orderings.{Decides}
 use Rattle.std.specs.Results.{isOk}
 use Rattle.std.specs.declared.option.Option.{Option}
 use Rattle.std.specs.declared.option.Option.the-variants.{None, Some}
-use Rattle.std.proofs.shelf.Tests.{and-parts, and-from, or-cases, or-left, or-right, not-false, not-from-true, eqb-true, eqb-false, eq-eqb, ne-eqb, ltb-true, ltb-false, lt-ltb, le-ltb, leb-true, le-leb, cases-eq, cases-lt, cases-bool, both-ways}
+use Rattle.std.proofs.shelf.Tests.{and-parts, or-cases, or-left, or-right, not-false, not-from-true, eqb-true, eqb-false, eq-eqb, ne-eqb, ltb-true, ltb-false, lt-ltb, le-ltb, leb-true, le-leb, cases-eq, cases-lt, both-ways}
 use Rattle.arena.specs.Meaning.{Meaning, Lawful}
 use Rattle.arena.specs.declared.moves.Outcome.{Outcome}
 use Rattle.table.specs.declared.row.Row.{Row}
 use Rattle.table.specs.declared.fault.Fault.{Fault}
-use Rattle.table.specs.declared.fault.Fault.the-variants.{TooManyRows, NotOwn, Repeated, NoStartRow, IllegalMove, NoRow, RankRule, WrongLengths}
-use Rattle.table.specs.Colours.{colourOf, latchAfter}
+use Rattle.table.specs.declared.fault.Fault.the-variants.{TooManyRows, NotOwn, IllegalMove, WrongLengths}
+use Rattle.table.specs.Colours.{colourOf}
 use Rattle.table.specs.Rows.{StandsAt, firstRow, startRow, rowAfter, outcomesOf}
 use Rattle.table.specs.Ranks.{rankOf, keepsFor, keeps}
 use Rattle.table.specs.Check.{when, numbered, verdict, isBefore, isOwn, placeFaults, startFaults, targetFaults, outcomeFaults, moveFaults, faults, checked}
 use Rattle.table.specs.Accepts.{Accepts}
 use Rattle.table.proofs.Lists.{none-some, some-same, cons-nil, append-nil, when-nil, numbered-nil, numbered-all}
-use Rattle.table.proofs.Finds.{fits-stands, stands-fits, first-stands, stands-first}
+use Rattle.table.proofs.Finds.{first-stands, stands-first}
 
 -- the rule for one odd colour, in words
 abbrev Falls : List ℕ → ℕ → ℕ → ℕ → ℕ → ℕ → Type 0

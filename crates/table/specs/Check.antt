@@ -1,5 +1,5 @@
 -- What the check answers: the first of all faults in the order of the tests, or the numbers of rows and outcomes.
-use mathlib.Core.Bool.{Bool, true, false, not, cond, _&&_}
+use mathlib.Core.Bool.{Bool, false, not, cond, _&&_}
 use mathlib.Core.List.{List, [], _∷_, _++_}
 use Prim.Native.Nat.{ℕ, suc, _+_, _*_}
 use lib.Dec.{ltb, leb, eqb}

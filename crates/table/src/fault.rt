@@ -1,4 +1,4 @@
-//! Why a table is declined.
+//! Why a table or a step is declined.
 ghost use mathlib.Core.Path.{_≡_};
 ghost use Rattle.table.specs.Faults.{numberOf, placeOf, detailOf};
 
@@ -21,6 +21,14 @@ pub enum Fault {
     RankRule { row: u16, outcome: u16 },
     /// There are not four ranks for each row.
     WrongLengths,
+    /// The walk stands where no row is.
+    NoRowHere,
+    /// The move of the row where the walk stands is not legal.
+    IllegalHere,
+    /// The move has no outcome with this number.
+    NoOutcome,
+    /// The walk has done 1,000,000 rounds.
+    TooManyRounds,
 }
 
 impl Fault {
@@ -33,10 +41,12 @@ impl Fault {
             Fault::NotOwn { .. } => 8,
             Fault::Repeated { .. } => 9,
             Fault::NoStartRow => 10,
-            Fault::IllegalMove { .. } => 11,
-            Fault::NoRow { .. } => 12,
+            Fault::IllegalMove { .. } | Fault::IllegalHere => 11,
+            Fault::NoRow { .. } | Fault::NoRowHere => 12,
             Fault::RankRule { .. } => 13,
             Fault::WrongLengths => 15,
+            Fault::NoOutcome => 16,
+            Fault::TooManyRounds => 17,
         }
     }
 
@@ -50,7 +60,13 @@ impl Fault {
             | Fault::IllegalMove { row }
             | Fault::NoRow { row, .. }
             | Fault::RankRule { row, .. } => row as u32,
-            Fault::TooManyRows | Fault::NoStartRow | Fault::WrongLengths => 0,
+            Fault::TooManyRows
+            | Fault::NoStartRow
+            | Fault::WrongLengths
+            | Fault::NoRowHere
+            | Fault::IllegalHere
+            | Fault::NoOutcome
+            | Fault::TooManyRounds => 0,
         }
     }
 
@@ -65,7 +81,11 @@ impl Fault {
             | Fault::Repeated { .. }
             | Fault::NoStartRow
             | Fault::IllegalMove { .. }
-            | Fault::WrongLengths => 0,
+            | Fault::WrongLengths
+            | Fault::NoRowHere
+            | Fault::IllegalHere
+            | Fault::NoOutcome
+            | Fault::TooManyRounds => 0,
         }
     }
 }
