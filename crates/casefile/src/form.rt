@@ -81,10 +81,7 @@ pub(crate) fn field_fault(line: u32, field: u32, form: Form, text: &[u8]) -> Opt
                 TextFault::BadInterval { line, field },
             ),
         },
-        Form::Owner => unless_fine(
-            is_word(text, b"us") || is_word(text, b"them"),
-            out_of_form,
-        ),
+        Form::Owner => unless_fine(is_word(text, b"us") || is_word(text, b"them"), out_of_form),
         Form::End { locations } => match read_number(text, 0, MAX_LOCATION) {
             None => Some(out_of_form),
             Some(n) => unless_fine(

@@ -8,8 +8,8 @@ use crate::text::cut;
 use crate::text::read_number;
 use game::bounds::Bound;
 use game::bounds::Bounds;
-use intervals::rows::is_bounded;
-use intervals::rows::is_inhabited;
+use soundness::bounds::is_bounded;
+use soundness::bounds::is_inhabited;
 
 /// Whether a bracket is round.
 fn is_round(b: u8, square: u8, round: u8) -> Option<bool>

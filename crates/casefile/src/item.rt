@@ -1,7 +1,7 @@
 //! What a line without faults says.
 ghost use mathlib.Core.Path.{_≡_};
 ghost use Prim.Native.Nat.{_≤_, _<_};
-ghost use Rattle.casetext.specs.Text.{number, fields};
+ghost use Rattle.casetext.specs.Text.{fields};
 ghost use Rattle.casetext.specs.Items.{bounds, zone, location, side, resetAt, resets, edge, clockAt, clockOf, region, row, ranks};
 use crate::fields::nth_field;
 use crate::form::is_word;

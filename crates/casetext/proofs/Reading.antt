@@ -8,7 +8,7 @@ use Rattle.std.specs.Options.{valueOr, mapped}
 use Rattle.std.specs.declared.option.Option.{Option}
 use Rattle.std.specs.declared.option.Option.the-variants.{Some, None}
 use Rattle.std.specs.declared.result.Result.{Result}
-use Rattle.std.specs.declared.result.Result.the-variants.{Ok, Err}
+use Rattle.std.specs.declared.result.Result.the-variants.{Ok}
 use Rattle.std.proofs.shelf.Lists.{nil-from-length}
 use Rattle.casetext.specs.declared.fault.TextFault.{TextFault}
 use Rattle.casetext.specs.Text.{lines, before, behind, lineFeed}
@@ -25,9 +25,6 @@ next-line n s bs line o r h front rest told =
 
 pub no-line : (n : ℕ) (s : Said) (bs : List ℕ) → length bs ≡ 0 → readLines n (Ok s) (lines bs) ≡ Ok s
 no-line n s bs none = ap (λ x. readLines n (Ok s) (lines x)) (nil-from-length bs none)
-
-pub fault-stays : (n : ℕ) (e : TextFault) (ls : List (List ℕ)) → readLines n (Err e) ls ≡ Err e
-fault-stays n e ls = refl
 
 pub now-or : (o : Option (RefT (List ℕ))) (d : RefT (List ℕ)) → now d ≡ [] → now (valueOr o d) ≡ valueOr (mapped now o) []
 now-or None d e = e

@@ -1,7 +1,7 @@
 -- What is read is sound but for the start, so that a text without a fault is refused exactly when it has no start.
 use mathlib.Core.Path.{_≡_, refl, sym, ap, subst, _∙_}
-use mathlib.Core.Bool.{Bool, true, false, cond, not, _&&_, _||_}
-use mathlib.Core.List.{List, [], _∷_, _++_, map}
+use mathlib.Core.Bool.{Bool, true, false, cond, _&&_, _||_}
+use mathlib.Core.List.{List, [], _∷_, map}
 use mathlib.Core.Logic.{inl, inr}
 use Prim.Native.Nat.{ℕ, zero, suc, _+_, _*_, _≤_, _<_}
 use native.Mathlib.Nat.{add-zero}
@@ -10,7 +10,6 @@ use lib.Dec.{eqb, leb, ltb, lit≤}
 use lib.ListN.{length, getD, drop}
 use Rattle.std.specs.Options.{isSome, valueOr, Cases}
 use Rattle.std.specs.shelf.Lists.{All}
-use Rattle.std.specs.shelf.Text.{sameBytes}
 use Rattle.std.specs.declared.option.Option.{Option}
 use Rattle.std.specs.declared.option.Option.the-variants.{Some, None}
 use Rattle.std.specs.declared.result.Result.{Result}
@@ -18,7 +17,7 @@ use Rattle.std.specs.declared.result.Result.the-variants.{Ok, Err}
 use Rattle.std.proofs.shelf.Elements.{all-push, all-getD, all-append, all-map, all-weaker}
 use Rattle.std.proofs.shelf.Equals.{sameBytes-decides}
 use Rattle.std.proofs.shelf.Lists.{length-push, length-map, length-append, length-drop, getD-drop, getD-past}
-use Rattle.std.proofs.shelf.Tests.{cases-bool, cond-true, cond-false, cond-both, eq-eqb, eqb-true, ne-eqb, and-parts, and-from, or-left, or-right, not-from-false, cases-lt, lt-ltb, le-ltb, le-leb}
+use Rattle.std.proofs.shelf.Tests.{cond-false, cond-both, eqb-true, ne-eqb, and-parts, and-from, or-left, or-right, not-from-false, cases-lt, lt-ltb, le-ltb, le-leb}
 use Rattle.std.proofs.shelf.Ways.{tells}
 use Rattle.regions.specs.Code.{every, within, isOwn}
 use Rattle.game.specs.declared.bounds.Bounds.{Bounds}
@@ -26,22 +25,21 @@ use Rattle.game.specs.declared.parts.Edge as edges
 use Rattle.game.specs.Intervals.{fitting, inhabited, bounded}
 use Rattle.game.specs.Start.{wellMade}
 use Rattle.game.proofs.Sounds.{sound-start}
-use Rattle.game.specs.Game.{Game, lastWhole, sound, suits, resettable, resetting, soundLocation, soundEdge, fresh, owns, start, keeps, inTurn}
+use Rattle.game.specs.Game.{Game, lastWhole, sound, suits, resettable, resetting, soundLocation, soundEdge, fresh, owns, start}
 use Rattle.casetext.specs.declared.fault.TextFault.{TextFault}
 use Rattle.casetext.specs.declared.fault.TextFault.the-variants.{NoStart}
 use Rattle.casetext.specs.declared.ranks.OddColour.{OddColour}
 use Rattle.casetext.specs.declared.ranks.OddColour.the-variants.{One, Three, Five, Seven}
 use Rattle.casetext.specs.declared.ranks.Ranks.{Ranks}
-use Rattle.casetext.specs.declared.line.Form.{Form}
 use Rattle.casetext.specs.declared.line.Form.the-variants.{Head, Number, Interval, Owner, End, Letters}
 use Rattle.casetext.specs.declared.line.Kind.{Kind}
 use Rattle.casetext.specs.declared.line.Kind.the-variants.{Clock, Loc, Edge, Row}
 use Rattle.casetext.specs.Text as text
 use Rattle.casetext.specs.Text.{number, numeral, lines, fields}
-use Rattle.casetext.specs.Fields.{dash, letters, allLetters, resetLetter, interval, unless, wrong, wrongInterval, wrongEnd, maxLocation, maxEdge}
+use Rattle.casetext.specs.Fields.{dash, letters, allLetters, resetLetter, interval, wrongInterval, wrongEnd, maxLocation, maxEdge}
 use Rattle.casetext.specs.Items.{location, edge, ranks, value, everything, bounds, zone, resetAt, maxPriority, maxCeiling, resets, clockAt, clockOf, row, maxRank, maxWhole, maxClass, maxSteps}
 use Rattle.casetext.specs.Lines.{Said, some, outOfPlace, kind, forms, lineFault, maxClocks, maxLocations, maxEdges, maxRows}
-use Rattle.casetext.specs.Case.{rankOf, column, rankList, maxText, Contents, nothing, added, unlessFault, readFields, readLine, readLines, ceilingsOf, gameOf, starts, contents, finished, concluded, readText}
+use Rattle.casetext.specs.Case.{rankOf, column, rankList, maxText, Contents, nothing, added, unlessFault, readFields, readLine, readLines, ceilingsOf, gameOf, starts, contents, concluded, readText}
 use Rattle.casetext.specs.Sound.{Sound, RowInRange, ClockInRange}
 use Rattle.casetext.proofs.Faults.{Passes, Fine, passing, in-place, fine, fine-at, fine-drop, faultless-length}
 use Rattle.casetext.proofs.Layouts.{length-loc, length-edge}
@@ -236,10 +234,10 @@ module _ (s : Said) (o : InOrder s) (fs : List (List ℕ)) where
         locations = o .locations;
         few-edges = simp length-push (omega arith);
         edges = all-push (λ e. soundEdge (ceilingsOf (s .ceilings)) n e ≡ true) (s .edges) (edge fs) (o .edges) (
-          and-from _ _ (end-there n (getD fs 2 []) (at 2 (omega arith)))
-          (and-from _ _ (end-there n (getD fs 3 []) (at 3 (omega arith)))
-          (and-from _ _ (resets-fit (s .ceilings) (getD fs 4 []) (o .ceilings) (at 4 (omega arith))) fit))
-        );
+            and-from _ _ (end-there n (getD fs 2 []) (at 2 (omega arith)))
+            (and-from _ _ (end-there n (getD fs 3 []) (at 3 (omega arith)))
+            (and-from _ _ (resets-fit (s .ceilings) (getD fs 4 []) (o .ceilings) (at 4 (omega arith))) fit))
+            );
         few-rows = o .few-rows;
         rows = o .rows;
         level = o .level;

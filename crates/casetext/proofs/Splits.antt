@@ -1,16 +1,15 @@
 -- A text cut at a separator.
 use mathlib.Core.Path.{_≡_, refl, sym, ap, _∙_}
-use mathlib.Core.Bool.{Bool, true, false, cond}
-use mathlib.Core.List.{List, [], _∷_, _++_, append-nil, append-assoc, map}
-use Prim.Native.Nat.{ℕ, suc, _+_, _-_, _*_, _≤_, _<_}
+use mathlib.Core.Bool.{true, false, cond}
+use mathlib.Core.List.{List, [], _∷_, _++_, append-nil, append-assoc}
+use Prim.Native.Nat.{ℕ, suc, _+_, _-_, _≤_, _<_}
 use native.Mathlib.Omega.{arith}
 use lib.Dec.{eqb, lit<, lit≤}
-use denote.Ref.{RefT, now}
 use lib.ListN.{length, getD, drop, take}
 use Rattle.std.specs.Options.{valueOr}
 use Rattle.std.specs.declared.option.Option.{Option}
 use Rattle.std.specs.declared.option.Option.the-variants.{Some, None}
-use Rattle.std.proofs.shelf.Lists.{at-drop-more, at-drop-all, take-more, take-all, map-push}
+use Rattle.std.proofs.shelf.Lists.{at-drop-more, at-drop-all, take-more, take-all}
 use Rattle.std.proofs.shelf.Tests.{cond-true, cond-false, cond-both, eq-eqb, ne-eqb}
 use Rattle.casetext.specs.Text.{onto, parted, before, behind}
 
@@ -45,7 +44,7 @@ pub clear-none : (sep : ℕ) (bs : List ℕ) → Clear sep bs 0
 clear-none sep bs = record { front = refl; rest = refl }
 
 -- a text with a separator has the piece before it, and those of what comes after
-pub parted-more : (sep : ℕ) (end : List (List ℕ)) (bs q : List ℕ) → behind sep bs ≡ Some q → parted sep end bs ≡ before sep bs ∷ parted sep end q
+parted-more : (sep : ℕ) (end : List (List ℕ)) (bs q : List ℕ) → behind sep bs ≡ Some q → parted sep end bs ≡ before sep bs ∷ parted sep end q
 parted-more sep end [] q e = absurd (grind arith)
 parted-more sep end (b ∷ bs) q e =
     elim (eqb b sep) as (λ t. cond t (Some bs) (behind sep bs) ≡ Some q → cond t ([] ∷ parted sep end bs) (onto b (parted sep end bs)) ≡ cond t [] (b ∷ before sep bs) ∷ parted sep end q) [
@@ -54,7 +53,7 @@ parted-more sep end (b ∷ bs) q e =
     ] e
 
 -- a text with none is one piece
-pub parted-last : (sep : ℕ) (bs : List ℕ) → behind sep bs ≡ None → parted sep ([] ∷ []) bs ≡ before sep bs ∷ []
+parted-last : (sep : ℕ) (bs : List ℕ) → behind sep bs ≡ None → parted sep ([] ∷ []) bs ≡ before sep bs ∷ []
 parted-last sep [] e = refl
 parted-last sep (b ∷ bs) e =
     elim (eqb b sep) as (λ t. cond t (Some bs) (behind sep bs) ≡ None → cond t ([] ∷ parted sep ([] ∷ []) bs) (onto b (parted sep ([] ∷ []) bs)) ≡ cond t [] (b ∷ before sep bs) ∷ []) [
@@ -62,7 +61,7 @@ parted-last sep (b ∷ bs) e =
       | false ↦ λ e. ap (onto b) (parted-last sep bs e)
     ] e
 
-pub behind-shorter : (sep : ℕ) (bs q : List ℕ) → behind sep bs ≡ Some q → length q < length bs
+behind-shorter : (sep : ℕ) (bs q : List ℕ) → behind sep bs ≡ Some q → length q < length bs
 behind-shorter sep [] q e = absurd (grind arith)
 behind-shorter sep (b ∷ bs) q e =
     elim (eqb b sep) as (λ t. cond t (Some bs) (behind sep bs) ≡ Some q → length q < length (b ∷ bs)) [
@@ -95,7 +94,7 @@ line-shorter sep bs None h e = h
 line-shorter sep bs (Some q) h e = behind-shorter sep bs q e
 
 -- a line has a first field
-pub some-field : (sep : ℕ) (bs : List ℕ) → 0 < length (parted sep ([] ∷ []) bs)
+some-field : (sep : ℕ) (bs : List ℕ) → 0 < length (parted sep ([] ∷ []) bs)
 some-field sep [] = lit< tt
 some-field sep (b ∷ bs) = cond-both (eqb b sep) _ _ (λ x. 0 < length x) (λ _. omega arith) (λ _. onto-some b (parted sep ([] ∷ []) bs))
   where

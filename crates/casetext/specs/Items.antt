@@ -1,13 +1,12 @@
 -- What a line without faults says. Its fields count from 0 here: `getD fs i []` is one, and empty where there is none.
-use mathlib.Core.Bool.{Bool, true, false, cond}
-use mathlib.Core.List.{List, [], _∷_, _++_, map}
+use mathlib.Core.Bool.{Bool, false, cond}
+use mathlib.Core.List.{List, []}
 use Prim.Native.Nat.{ℕ, _+_, _*_}
 use lib.Dec.{eqb, ltb}
 use lib.ListN.{getD}
 use Rattle.std.specs.Options.{valueOr}
 use Rattle.std.specs.shelf.Text.{sameBytes}
-use Rattle.std.specs.declared.option.Option.{Option}
-use Rattle.std.specs.declared.option.Option.the-variants.{Some, None}
+use Rattle.std.specs.declared.option.Option.the-variants.{None}
 use Rattle.arena.specs.declared.moves.Side.{Side}
 use Rattle.arena.specs.declared.moves.Side.the-variants.{Us, Them}
 use Rattle.regions.specs.declared.region.ClockRegion.{ClockRegion}

@@ -1,6 +1,5 @@
 use native.Mathlib.Omega.{arith}
 use lib.ListN.{length}
-use mathlib.Core.Path.{ap}
 use Rattle.std.proofs.shelf.Lists.{at-drop-all}
 use Rattle.casetext.specs.Text.{fields}
 use Rattle.casetext.proofs.Splits.{count-more, count-same}

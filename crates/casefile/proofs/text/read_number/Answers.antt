@@ -1,10 +1,9 @@
-use mathlib.Core.Path.{_≡_, refl, sym, ap, _∙_}
+use mathlib.Core.Path.{sym, ap, _∙_}
 use Prim.Native.Nat.{_+_, _*_, _-_}
 use native.Mathlib.Omega.{arith}
-use borrow.Author.Needs.{needs}
 use Rattle.std.proofs.shelf.Ways.{tells}
-use lib.ListN.{length, getD, drop}
-use Rattle.casetext.specs.Text.{within, digits}
+use lib.ListN.{getD, drop}
+use Rattle.casetext.specs.Text.{within}
 use Rattle.casetext.proofs.Numbers.{above, next-digit, no-digit, at-end}
 use Rattle.casefile.proofs.text.read_number.Needs as need
 
