@@ -1,2 +1,3 @@
-pub mod Passes
 pub mod Automata
+pub mod Laws
+pub mod Passes
