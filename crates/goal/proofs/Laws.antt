@@ -10,6 +10,7 @@ use lib.ListN.{length}
 use Rattle.std.specs.Finite.{nth}
 use Rattle.std.specs.Options.{mapped}
 use Rattle.std.specs.shelf.Lists.{All}
+use Rattle.std.specs.declared.option.Option.{Option}
 use Rattle.std.proofs.shelf.Elements.{all-map, all-weaker}
 use Rattle.std.proofs.shelf.Lists.{length-map}
 use Rattle.std.proofs.shelf.Tests.{and-parts, and-from, and-cases, both-ways, cases-bool, cond-true, cond-false, cond-both, eqb-true, eq-eqb}
@@ -52,8 +53,8 @@ module _ {P : Type 0} (m : Meaning P) (ok : Lawful m) (g : Goal) where
     pub as-many : length (goalMeaning m g .outcomes p v) ≡ length (m .outcomes (p .below) v)
     as-many = ap length opened ∙ length-map (m .outcomes (p .below) v) (raised m g (p .state))
 
-    pub by-number : (i : ℕ) → nth (goalMeaning m g .outcomes p v) i ≡ mapped (raised m g (p .state)) (nth (m .outcomes (p .below) v) i)
-    by-number i = ap (λ os. nth os i) opened ∙ nth-map (raised m g (p .state)) (m .outcomes (p .below) v) i
+    pub by-number : (i : ℕ) (o : Option (Outcome P)) → nth (m .outcomes (p .below) v) i ≡ o → mapped (raised m g (p .state)) o ≡ nth (goalMeaning m g .outcomes p v) i
+    by-number i o e = rw (← e, opened) (sym (nth-map (raised m g (p .state)) (m .outcomes (p .below) v) i))
 
   pub known-state : (p : GoalPosition P) → owned m g p ≡ true → exists g (p .state) ≡ true
   known-state p e = and-parts (exists g (p .state)) (m .owns (p .below)) e .0
@@ -102,11 +103,12 @@ module _ {P : Type 0} (m : Meaning P) (ok : Lawful m) (g : Goal) where
         counts = within;
         leads = all-own;
         idle = λ p v e.
-          cond-both (owned m g p) (lifted p v) [] (λ os. os ≡ [])
-          (λ o. ⊎-elim (λ f. absurd (both-ways (owned m g p) f o)) (λ f. ap (map (raised m g (p .state))) (ok .idle (p .below) v f)) (and-cases (owned m g p) (m .legal (p .below) v) e))
-          (λ _. refl);
-        ranges = λ p.
-          (cond-both (owned m g p) (priorityIn g (p .state)) 0 (λ n. n ≤ 5) (λ o. priority-low g (p .state) (known-state p o)) (λ _. omega arith),
-          cond-both (owned m g p) (m .label (p .below)) 0 (λ n. n ≤ 31) (λ _. ok .ranges (p .below) .1) (λ _. omega arith));
-        strange = λ p e. (cond-false (owned m g p) (priorityIn g (p .state)) 0 e, cond-false (owned m g p) (m .label (p .below)) 0 e)
+            cond-both (owned m g p) (lifted p v) [] (λ os. os ≡ [])
+            (λ o. ⊎-elim (λ f. absurd (both-ways (owned m g p) f o)) (λ f. ap (map (raised m g (p .state))) (ok .idle (p .below) v f)) (and-cases (owned m g p) (m .legal (p .below) v) e))
+            (λ _. refl);
+        ranges = λ p. (
+          cond-both (owned m g p) (priorityIn g (p .state)) 0 (λ n. n ≤ 5) (λ o. priority-low g (p .state) (known-state p o)) (λ _. omega arith),
+          cond-both (owned m g p) (m .label (p .below)) 0 (λ n. n ≤ 31) (λ _. ok .ranges (p .below) .1) (λ _. omega arith),
+        );
+        strange = λ p e. (cond-false (owned m g p) (priorityIn g (p .state)) 0 e, cond-false (owned m g p) (m .label (p .below)) 0 e);
       }

@@ -34,5 +34,5 @@ module _ {P : Type 0} (m : Meaning P) (g : Goal) where
         priority = λ p. cond (owned p) (priorityIn g (p .state)) 0;
         label = λ p. cond (owned p) (m .label (p .below)) 0;
         legal = λ p v. owned p && m .legal (p .below) v;
-        outcomes = λ p v. cond (owned p) (map (raised (p .state)) (m .outcomes (p .below) v)) []
+        outcomes = λ p v. cond (owned p) (map (raised (p .state)) (m .outcomes (p .below) v)) [];
       }

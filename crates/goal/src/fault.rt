@@ -1,6 +1,13 @@
 //! Why a goal is declined.
 ghost use mathlib.Core.Path.{_≡_};
 
+/// Out of form or range.
+const OUT_OF_FORM: u8 = 3;
+
+const NO_PLACE: u32 = 0;
+
+const NO_DETAIL: u32 = 0;
+
 /// The states that were handed in are out of form or range.
 #[derive(Clone, Copy)]
 pub struct GoalFault;
@@ -10,20 +17,20 @@ impl GoalFault {
     pub fn number(self) -> u8
         ensures { λ r. ⌜ r ≡ 3 ⌝ }
     {
-        3
+        OUT_OF_FORM
     }
 
-    /// The refusal names no place.
+    /// The refusal names no place,
     pub fn place(self) -> u32
         ensures { λ r. ⌜ r ≡ 0 ⌝ }
     {
-        0
+        NO_PLACE
     }
 
-    /// Nor any detail.
+    /// and no detail.
     pub fn detail(self) -> u32
         ensures { λ r. ⌜ r ≡ 0 ⌝ }
     {
-        0
+        NO_DETAIL
     }
 }

@@ -9,13 +9,14 @@ ghost use mathlib.Core.Bool.{true, cond};
 ghost use mathlib.Core.List.{[], map};
 ghost use Rattle.goal.specs.Automaton.{exists};
 ghost use Rattle.goal.specs.Product.{reached, raised, goalMeaning};
+ghost use Rattle.goal.specs.Runs.{RunsOver};
 
 /// The digest below is multiplied by this before the state is added: an odd number above the
 /// number of states, so that wrapping makes no two digests the same.
 const DIGEST_STEP: u32 = 17;
 
 /// A position below with the goal's state there.
-#[derive(Drop)]
+#[derive(Clone, Copy, Drop)]
 pub struct GoalPosition<P> {
     pub below: P,
     pub state: u8,
@@ -36,9 +37,11 @@ pub struct GoalArena<A> {
 }
 
 impl<A: Arena> GoalArena<A> {
-    /// The goal over an arena.
+    /// The goal over an arena. Its runs are those of the arena below, with the states that the
+    /// automaton comes to as it reads their labels.
     pub fn new(below: A, goal: Goal) -> GoalArena<A>
-        ensures { λ r. ⌜ r ≡ record { below = below; goal = goal } ⌝ }
+        ensures made { λ r. ⌜ r ≡ record { below = below; goal = goal } ⌝ }
+        ensures runs { λ _. ⌜ RunsOver (A·Arena .meaning below) goal ⌝ }
     {
         GoalArena { below, goal }
     }
@@ -49,7 +52,10 @@ impl<A: Arena> GoalArena<A> {
         ensures { λ r. ⌜ r ≡ reached (A·Arena .meaning (now (self .entry) .below)) (now (self .entry) .goal) state below ⌝ }
     {
         let label = self.below.label(&below);
-        GoalPosition { below, state: self.goal.after(state, label) }
+        GoalPosition {
+            below,
+            state: self.goal.after(state, label),
+        }
     }
 
     /// An outcome below, with the state that it leads to.
@@ -57,8 +63,16 @@ impl<A: Arena> GoalArena<A> {
         requires { ⌜ exists (now self .goal) state ≡ true ⌝ }
         ensures { λ r. ⌜ r ≡ raised (A·Arena .meaning (now (self .entry) .below)) (now (self .entry) .goal) state outcome ⌝ }
     {
-        let Outcome { position, ticked, by } = outcome;
-        Outcome { position: self.reach(state, position), ticked, by }
+        let Outcome {
+            position,
+            ticked,
+            by,
+        } = outcome;
+        Outcome {
+            position: self.reach(state, position),
+            ticked,
+            by,
+        }
     }
 }
 
@@ -80,7 +94,10 @@ pub impl<A: Arena> Arena for GoalArena<A> as GoalArenaArena {
     }
 
     fn digest(&self, p: &GoalPosition<A::Position>) -> u32 {
-        self.below.digest(&p.below).wrapping_mul(DIGEST_STEP).wrapping_add(u32::from(p.state))
+        self.below
+            .digest(&p.below)
+            .wrapping_mul(DIGEST_STEP)
+            .wrapping_add(u32::from(p.state))
     }
 
     fn owns(&self, p: &GoalPosition<A::Position>) -> bool {
@@ -88,11 +105,19 @@ pub impl<A: Arena> Arena for GoalArena<A> as GoalArenaArena {
     }
 
     fn priority(&self, p: &GoalPosition<A::Position>) -> u8 {
-        if self.owns(p) { self.goal.priority(p.state) } else { 0 }
+        if self.owns(p) {
+            self.goal.priority(p.state)
+        } else {
+            0
+        }
     }
 
     fn label(&self, p: &GoalPosition<A::Position>) -> u8 {
-        if self.goal.has_state(p.state) { self.below.label(&p.below) } else { 0 }
+        if self.goal.has_state(p.state) {
+            self.below.label(&p.below)
+        } else {
+            0
+        }
     }
 
     fn legal(&self, p: &GoalPosition<A::Position>, m: Move) -> bool {
@@ -100,10 +125,19 @@ pub impl<A: Arena> Arena for GoalArena<A> as GoalArenaArena {
     }
 
     fn count(&self, p: &GoalPosition<A::Position>, m: Move) -> u16 {
-        if self.goal.has_state(p.state) { self.below.count(&p.below, m) } else { 0 }
+        if self.goal.has_state(p.state) {
+            self.below.count(&p.below, m)
+        } else {
+            0
+        }
     }
 
-    fn outcome(&self, p: &GoalPosition<A::Position>, m: Move, i: u16) -> Option<Outcome<GoalPosition<A::Position>>> {
+    fn outcome(
+        &self,
+        p: &GoalPosition<A::Position>,
+        m: Move,
+        i: u16,
+    ) -> Option<Outcome<GoalPosition<A::Position>>> {
         if !self.goal.has_state(p.state) {
             return None;
         }
@@ -112,10 +146,16 @@ pub impl<A: Arena> Arena for GoalArena<A> as GoalArenaArena {
     }
 
     fn list(&self, p: &GoalPosition<A::Position>, m: Move) -> GoalListing<A::Listing> {
-        GoalListing { below: self.below.list(&p.below, m), state: p.state }
+        GoalListing {
+            below: self.below.list(&p.below, m),
+            state: p.state,
+        }
     }
 
-    fn next(&self, listing: &mut GoalListing<A::Listing>) -> Option<Outcome<GoalPosition<A::Position>>> {
+    fn next(
+        &self,
+        listing: &mut GoalListing<A::Listing>,
+    ) -> Option<Outcome<GoalPosition<A::Position>>> {
         if !self.goal.has_state(listing.state) {
             return None;
         }

@@ -37,7 +37,10 @@ fn stored(states: &[GoalState]) -> [GoalState; MOST_STATES]
     requires { ⌜ length (now states) ≤ 16 ⌝ }
     ensures { λ r. ⌜ take (length (now (states .entry))) r ≡ now (states .entry) ⌝ }
 {
-    let blank = GoalState { priority: 0, next: [0; LABELS] };
+    let blank = GoalState {
+        priority: 0,
+        next: [0; LABELS],
+    };
     let mut all = [blank; MOST_STATES];
     all[0..states.len()].copy_from_slice(states);
     all
@@ -49,7 +52,10 @@ impl Goal {
         ensures { λ r. ⌜ mapped statesOf (okPart r) ≡ cond (inForm (now (states .entry))) (Some (now (states .entry))) None ⌝ }
     {
         if is_in_form(states) {
-            Ok(Goal { count: states.len() as u8, states: stored(states) })
+            Ok(Goal {
+                count: states.len() as u8,
+                states: stored(states),
+            })
         } else {
             Err(GoalFault)
         }

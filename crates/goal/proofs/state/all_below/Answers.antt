@@ -7,11 +7,11 @@ use Rattle.goal.proofs.state.all_below.Needs as need
 
 pub returns-then-state-count : need.returns-then-state-count
 returns-then-state-count c =
-    sym (pass-fails (λ s. ltb s (c .args .count)) (c .args .states .now) (c .loop-state .state-index) 0 (c .loop-state .inv) (c .loop-state-test .taken) (le-ltb _ _ (c .if-state-count .taken)))
+    sym (pass-fails (λ s. ltb s (c .args .count)) (c .args .states .now) (c .loop-state .state-index) 0 (c .loop-state .inv) (c .loop-state-test .taken) (le-ltb _ _ (omega arith)))
 
 pub loop-state-again : need.loop-state-again
 loop-state-again c =
-    pass-more (λ s. ltb s (c .args .count)) (c .args .states .now) (c .loop-state .state-index) 0 (c .loop-state .inv) (c .loop-state-test .taken) (lt-ltb _ _ (c .if-state-count .left))
+    pass-more (λ s. ltb s (c .args .count)) (c .args .states .now) (c .loop-state .state-index) 0 (c .loop-state .inv) (c .loop-state-test .taken) (lt-ltb _ _ (omega arith))
 
 pub returns : need.returns
 returns c =
