@@ -25,15 +25,22 @@ impl GoalState {
     pub(crate) fn is_fit(&self, count: usize) -> bool
         ensures { λ r. ⌜ r ≡ fit count (now (self .entry)) ⌝ }
     {
-        self.priority <= TOP_PRIORITY && all_below(&self.next, count)
+        self.priority <= TOP_PRIORITY && all_states(&self.next, count)
     }
 }
 
-fn all_below(states: &[u8], count: usize) -> bool
+/// Whether this is a state of a goal with so many.
+pub(crate) fn is_state(state: u8, count: usize) -> bool
+    ensures { λ r. ⌜ r ≡ ltb state count ⌝ }
+{
+    (state as usize) < count
+}
+
+fn all_states(states: &[u8], count: usize) -> bool
     ensures { λ r. ⌜ r ≡ all-pass (λ s. ltb s count) (now (states .entry)) ⌝ }
 {
     for state in states {
-        if *state as usize >= count {
+        if !is_state(*state, count) {
             return false;
         }
     }

@@ -4,6 +4,7 @@ use crate::fault::GoalFault;
 use crate::state::GoalState;
 use crate::state::LABELS;
 use crate::state::MOST_STATES;
+use crate::state::is_state;
 ghost use mathlib.Core.Path.{_≡_};
 ghost use mathlib.Core.Bool.{true, cond};
 ghost use Prim.Native.Nat.{_<_, _≤_};
@@ -65,7 +66,7 @@ impl Goal {
     pub fn has_state(&self, state: u8) -> bool
         ensures { λ r. ⌜ r ≡ exists (now (self .entry)) state ⌝ }
     {
-        state < self.count
+        is_state(state, self.count as usize)
     }
 
     /// The priority of a state.
