@@ -16,7 +16,7 @@ use Rattle.arena.specs.declared.moves.Outcome.{Outcome}
 use Rattle.goal.specs.declared.goal.Goal.{Goal}
 use Rattle.goal.specs.declared.product.GoalPosition.{GoalPosition}
 use Rattle.goal.specs.Automaton.{exists, priorityIn, after, readFrom, read}
-use Rattle.goal.specs.Product.{raised, reached, owned, goalMeaning}
+use Rattle.goal.specs.Product.{raised, owned, goalMeaning}
 use Rattle.goal.specs.Runs.{Pick, runFrom, run, along, lowered, word, RunsOver}
 use Rattle.goal.proofs.Automata.{first-exists, after-exists}
 use Rattle.goal.proofs.Laws.{by-number, goal-lawful}

@@ -1,5 +1,4 @@
 -- A goal as an automaton: its states, and how it reads a word of labels.
-use mathlib.Core.Path.{_≡_}
 use mathlib.Core.List.{List, [], _∷_}
 use mathlib.Core.Bool.{Bool}
 use Prim.Native.Nat.{ℕ}
@@ -8,6 +7,7 @@ use lib.ListN.{getD, length, take}
 use Rattle.goal.specs.declared.state.GoalState.{GoalState}
 use Rattle.goal.specs.declared.goal.Goal.{Goal}
 
+-- a goal's states, which are numbered from 0
 abbrev pub statesOf : Goal → List GoalState
 statesOf g = take (g .count) (g .states)
 
@@ -15,9 +15,11 @@ statesOf g = take (g .count) (g .states)
 abbrev pub noState : GoalState
 noState = record { priority = 0; next = [] }
 
+-- whether a state exists
 abbrev pub exists : Goal → ℕ → Bool
 exists g s = ltb s (length (statesOf g))
 
+-- the priority of a state
 abbrev pub priorityIn : Goal → ℕ → ℕ
 priorityIn g s = getD (statesOf g) s noState .priority
 

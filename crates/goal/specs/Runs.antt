@@ -5,7 +5,7 @@ use Prim.Native.Nat.{ℕ}
 use Rattle.std.specs.Finite.{nth}
 use Rattle.std.specs.Options.{mapped, flattened}
 use Rattle.std.specs.declared.option.Option.{Option}
-use Rattle.std.specs.declared.option.Option.the-variants.{None, Some}
+use Rattle.std.specs.declared.option.Option.the-variants.{Some}
 use Rattle.arena.specs.Meaning.{Meaning}
 use Rattle.arena.specs.declared.moves.Move.{Move}
 use Rattle.arena.specs.declared.moves.Outcome.{Outcome}
@@ -19,7 +19,7 @@ pub record Pick : Type 0 where
   pub choice : Move
   pub number : ℕ
 
--- The rounds that picks make from a position on. Where an outcome is not there, there is no such run; an illegal move has none.
+-- The rounds that picks make from a position on. There is no such run where a picked outcome is not there, as of a move that is not legal.
 abbrev pub runFrom : {P : Type 0} → Meaning P → P → List Pick → Option (List (Outcome P))
 runFrom m p [] = Some []
 runFrom m p (k ∷ ks) = flattened (mapped (λ o. mapped (_∷_ o) (runFrom m (o .position) ks)) (nth (m .outcomes p (k .choice)) (k .number)))

@@ -3,7 +3,6 @@ use crate::state::GoalState;
 use crate::state::MOST_STATES;
 ghost use mathlib.Core.Path.{_≡_};
 ghost use mathlib.Core.Bool.{true};
-ghost use Prim.Native.Nat.{_≤_};
 ghost use lib.ListN.{take, length};
 ghost use Rattle.goal.specs.Form.{inForm};
 

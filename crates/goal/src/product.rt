@@ -11,8 +11,8 @@ ghost use Rattle.goal.specs.Automaton.{exists};
 ghost use Rattle.goal.specs.Product.{reached, raised, goalMeaning};
 ghost use Rattle.goal.specs.Runs.{RunsOver};
 
-/// The digest below is multiplied by this before the state is added: an odd number above the
-/// number of states, so that wrapping makes no two digests the same.
+/// A digest is this often the digest below, and the state: odd, so that wrapping loses nothing
+/// of the digest below, and above the number of states.
 const DIGEST_STEP: u32 = 17;
 
 /// A position below with the goal's state there.
