@@ -86,5 +86,9 @@ pub fn of_table(heap: Global, fault: Fault, first: u32) -> Result<String, AllocE
                 "row {row} (line {line}), outcome {outcome}: the ranks break their rule"
             )
         }
+        Fault::NoRowHere => format!(heap, "the walk stands where no row is"),
+        Fault::IllegalHere => format!(heap, "the move of the walk's row is not legal there"),
+        Fault::NoOutcome => format!(heap, "the row's move has no outcome of this number"),
+        Fault::TooManyRounds => format!(heap, "1,000,000 rounds are done"),
     }
 }

@@ -29,11 +29,11 @@ pub impl From<TextFault> for Refusal as RefusalFromText {
 pub impl From<Fault> for Refusal as RefusalFromTable {
     ghost converts = { λ f r. r ≡ ofTable f };
 
-    fn from(fault: Fault) -> Refusal {
+    fn from(refused: Fault) -> Refusal {
         Refusal {
-            number: fault.number(),
-            place: fault.place(),
-            detail: fault.detail(),
+            number: refused.number(),
+            place: refused.place(),
+            detail: refused.detail(),
         }
     }
 }
