@@ -1,0 +1,2 @@
+-- The graph of a table.
+use Prim.Native.Nat.{ℕ}
