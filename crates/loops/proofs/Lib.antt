@@ -1,3 +1,5 @@
+pub mod Firsts
 pub mod Ranks
 pub mod Lifts
 pub mod Rings
+pub mod Decides

@@ -13,24 +13,12 @@ use Rattle.std.proofs.shelf.Tests.{cases-eq, cases-lt, eq-eqb, ne-eqb, cond-tru
 use Rattle.loops.specs.declared.pair.Pair.{Pair}
 use Rattle.loops.specs.Graph.{Graph, Closed, Leads, largest, Simple, Losing, due}
 use Rattle.loops.specs.Lifting.{StandsBy, Lifted, after, way, OnRing}
+use Rattle.loops.proofs.Firsts.{First, some-or-none}
 
 -- of n + 1 numbers below n two are the same
 
 Twice : ℕ → (ℕ → ℕ) → Type 0
 Twice n f = (i : ℕ) × (j : ℕ) × (i < j) × (j ≤ n) × (f i ≡ f j)
-
-seen-before : (f : ℕ → ℕ) (x n : ℕ) → ((i : ℕ) × (i < n) × (f i ≡ x)) ⊎ ((i : ℕ) → i < n → f i ≡ x → ⊥)
-seen-before f x zero = inr (λ i b e. omega arith)
-seen-before f x (suc n) =
-    ⊎-elim
-    (λ (e : f n ≡ x). inl (n, omega arith, e))
-    (λ (ne : f n ≡ x → ⊥).
-      ⊎-elim
-      (λ (h : (i : ℕ) × (i < n) × (f i ≡ x)). inl (h .0, omega (arith, h .1), h .2))
-      (λ (h : (i : ℕ) → i < n → f i ≡ x → ⊥).
-        inr (λ i b e. ⊎-elim (λ (q : i ≡ n). ne (ap f (sym q) ∙ e)) (λ (q : i ≡ n → ⊥). h i (omega arith) e) (cases-eq i n)))
-      (seen-before f x n))
-    (cases-eq (f n) x)
 
 -- the number n stands no more: where it came, the last one comes instead
 without : ℕ → (ℕ → ℕ) → ℕ → ℕ
@@ -73,11 +61,11 @@ unfolding Twice
 twice zero f below = absurd (omega (arith, below 0 (omega arith)))
 twice (suc n) f below =
     ⊎-elim
-    (λ (h : (i : ℕ) × (i < suc n) × (f i ≡ f (suc n))). (h .0, suc n, h .1, omega arith, h .2))
+    (λ (h : First (λ i. f i ≡ f (suc n)) (suc n)). (h .number, suc n, h .below, omega arith, h .holds))
     (λ (apart : (i : ℕ) → i < suc n → f i ≡ f (suc n) → ⊥).
       let t : Twice n (without n f) = twice n (without n f) (without-below n f apart below) in
       (t .0, t .1, t .2, omega (arith, t .3), without-same n f apart (t .0) (t .1) (omega (arith, t .2, t .3)) (t .3) (t .4)))
-    (seen-before f (f (suc n)) (suc n))
+    (some-or-none (λ i. f i ≡ f (suc n)) (λ i. cases-eq (f i) (f (suc n))) (suc n))
 
 -- one step after another
 
