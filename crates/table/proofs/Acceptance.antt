@@ -22,7 +22,7 @@ use Rattle.table.specs.declared.fault.Fault.the-variants.{TooManyRows, NotOwn,
 use Rattle.table.specs.Colours.{colourOf, latchAfter}
 use Rattle.table.specs.Rows.{StandsAt, firstRow, startRow, rowAfter, outcomesOf}
 use Rattle.table.specs.Ranks.{rankOf, keepsFor, keeps}
-use Rattle.table.specs.Check.{when, numbered, verdict, isBefore, isOwn, placeFaults, targetFaults, outcomeFaults, moveFaults, faults, checked}
+use Rattle.table.specs.Check.{when, numbered, verdict, isBefore, isOwn, placeFaults, startFaults, targetFaults, outcomeFaults, moveFaults, faults, checked}
 use Rattle.table.specs.Accepts.{Accepts}
 use Rattle.table.proofs.Lists.{none-some, some-same, cons-nil, append-nil, when-nil, numbered-nil, numbered-all}
 use Rattle.table.proofs.Finds.{fits-stands, stands-fits, first-stands, stands-first}
@@ -40,10 +40,10 @@ keeps-falls ranks n p c s t e =
     ⊎-elim
     (λ q. let h = ltb-true p c q in (λ le. absurd (omega arith), λ eq. absurd (omega arith)))
     (λ q.
-      ⊎-elim
-      (λ w. let h = ltb-true _ _ (w .1) in (λ _. omega arith, λ _. h))
-      (λ w. let h = leb-true _ _ (w .1) in (λ _. h, λ eq. absurd (eqb-false p c (w .0) (sym eq))))
-      (cond-ways (eqb p c) _ _ q))
+    ⊎-elim
+    (λ w. let h = ltb-true _ _ (w .1) in (λ _. omega arith, λ _. h))
+    (λ w. let h = leb-true _ _ (w .1) in (λ _. h, λ eq. absurd (eqb-false p c (w .0) (sym eq))))
+    (cond-ways (eqb p c) _ _ q))
     (or-cases (ltb p c) _ e)
 
 falls-keeps : (ranks : List ℕ) (n p c s t : ℕ) → Falls ranks n p c s t → keepsFor ranks n p c s t ≡ true
@@ -51,21 +51,21 @@ falls-keeps ranks n p c s t f =
     ⊎-elim
     (λ (h : p < c). or-left _ _ (lt-ltb p c h))
     (λ (h : c ≤ p).
-      or-right (ltb p c) (cond (eqb p c) (ltb (rankOf ranks n p t) (rankOf ranks n p s)) (leb (rankOf ranks n p t) (rankOf ranks n p s)))
-      (⊎-elim
-        (λ (q : p ≡ c). rw (eq-eqb p c q) (lt-ltb _ _ (f .1 (sym q))))
-        (λ (q : p ≡ c → ⊥). rw (ne-eqb p c q) (le-leb _ _ (f .0 h)))
-        (cases-eq p c)))
+    or-right (ltb p c) (cond (eqb p c) (ltb (rankOf ranks n p t) (rankOf ranks n p s)) (leb (rankOf ranks n p t) (rankOf ranks n p s)))
+    (⊎-elim
+    (λ (q : p ≡ c). rw (eq-eqb p c q) (lt-ltb _ _ (f .1 (sym q))))
+    (λ (q : p ≡ c → ⊥). rw (ne-eqb p c q) (le-leb _ _ (f .0 h)))
+    (cases-eq p c)))
     (cases-lt p c)
 
 odd : (p : ℕ) → p % 2 ≡ 1 → p ≤ 7 → (p ≡ 1) ⊎ ((p ≡ 3) ⊎ ((p ≡ 5) ⊎ (p ≡ 7)))
 odd p e b =
     ⊎-elim inl
     (λ (n1 : p ≡ 1 → ⊥).
-      inr
-      (⊎-elim inl
-        (λ (n3 : p ≡ 3 → ⊥). inr (⊎-elim inl (λ (n5 : p ≡ 5 → ⊥). inr (omega arith)) (cases-eq p 5)))
-        (cases-eq p 3)))
+    inr
+    (⊎-elim inl
+    (λ (n3 : p ≡ 3 → ⊥). inr (⊎-elim inl (λ (n5 : p ≡ 5 → ⊥). inr (omega arith)) (cases-eq p 5)))
+    (cases-eq p 3)))
     (cases-eq p 1)
 
 keeps-odd : (ranks : List ℕ) (n c s t p : ℕ) → keeps ranks n c s t ≡ true → p % 2 ≡ 1 → p ≤ 7 → keepsFor ranks n p c s t ≡ true
@@ -87,7 +87,6 @@ not-before : (s t : ℕ) (o : Option ℕ) → isBefore s o ≡ false → o ≡ S
 not-before s t None e h = absurd (none-some h)
 not-before s t (Some k) e h = omega (arith, ltb-false k s e, some-same h)
 
-
 -- the five tests of the check, each without a fault
 record Clean {P : Type 0} (m : Meaning P) (rows : List (Row P)) (rule : ℕ → ℕ → ℕ → Bool) (given : ℕ) : Type 0 where
   few : ltb 1024 (length rows) ≡ false
@@ -102,7 +101,7 @@ module _ {P : Type 0} (m : Meaning P) (rows : List (Row P)) (rule : ℕ → ℕ 
       let a = append-nil (when (ltb 1024 (length rows)) TooManyRows) _ e in
       let b = append-nil (when (not (eqb given (4 * length rows))) WrongLengths) _ (a .1) in
       let c = append-nil (numbered (placeFaults m rows) 0 rows) _ (b .1) in
-      let d = append-nil (when (not (isSome (startRow m rows))) NoStartRow) _ (c .1) in
+      let d = append-nil (startFaults m rows) _ (c .1) in
       record { few = when-nil _ _ (a .0); four = when-nil _ _ (b .0); places = c .0; first = when-nil _ _ (d .0); moves = d .1 }
 
   faultless : Clean m rows rule given → faults m rows rule given ≡ []
@@ -147,18 +146,18 @@ module _ {P : Type 0} (m : Meaning P) (ok : Lawful m) (rows : List (Row P)) (ran
           few = ltb-false 1024 (length rows) (c .few);
           four = eqb-true _ _ (not-false _ (c .four));
           own = λ s r e.
-            let q = and-parts (m .owns (r .position)) _ (place s r e .0) in
-            let l = and-parts (leb (m .priority (r .position)) (r .latch)) _ (q .1) in
-            (q .0, leb-true _ _ (l .0), leb-true _ _ (l .1));
+              let q = and-parts (m .owns (r .position)) _ (place s r e .0) in
+              let l = and-parts (leb (m .priority (r .position)) (r .latch)) _ (q .1) in
+              (q .0, leb-true _ _ (l .0), leb-true _ _ (l .1));
           apart = λ s t p l x y. some-same (sym (first-here s p l x) ∙ first-here t p l y);
           starts = let f = is-some (startRow m rows) (not-false _ (c .first)) in (f .0, first-stands m _ _ ok rows (f .0) (f .1));
           legal = λ s r e. move s r e .0;
           leads = λ s i r o e h. let f = target s i r o e h in (f .0, first-stands m _ _ ok rows (f .0) (f .1));
           falls = λ s i t p r o e h x od b.
-            let f = target s i r o e h in
-            let q : f .0 ≡ t = some-same (sym (f .1) ∙ first-here t _ _ x) in
-            let k : keeps ranks (length rows) (colourOf (r .latch) o) s t ≡ true = rw (← q) (f .2) in
-            keeps-falls ranks (length rows) p _ s t (keeps-odd ranks (length rows) _ s t p k od b)
+              let f = target s i r o e h in
+              let q : f .0 ≡ t = some-same (sym (f .1) ∙ first-here t _ _ x) in
+              let k : keeps ranks (length rows) (colourOf (r .latch) o) s t ≡ true = rw (← q) (f .2) in
+              keeps-falls ranks (length rows) p _ s t (keeps-odd ranks (length rows) _ s t p k od b);
         }
 
   module _ (a : Accepts m rows ranks) where
@@ -180,7 +179,7 @@ module _ {P : Type 0} (m : Meaning P) (ok : Lawful m) (rows : List (Row P)) (ran
         let x = a .leads s i r o e h in
         let f = stands-first m _ _ ok rows (x .0) (x .1) in
         let falls : (p : ℕ) → p % 2 ≡ 1 → p ≤ 7 → keepsFor ranks (length rows) p (colourOf (r .latch) o) s (f .0) ≡ true =
-            λ p od b. falls-keeps ranks (length rows) p _ s (f .0) (a .falls s i (f .0) p r o e h (first-stands m _ _ ok rows (f .0) (f .1)) od b) in
+        λ p od b. falls-keeps ranks (length rows) p _ s (f .0) (a .falls s i (f .0) p r o e h (first-stands m _ _ ok rows (f .0) (f .1)) od b) in
         rw (f .1, falls 1 refl (omega arith), falls 3 refl (omega arith), falls 5 refl (omega arith), falls 7 refl (omega arith))
 
     no-move : (s : ℕ) (r : Row P) → nth rows s ≡ Some r → moveFaults m rows (keeps ranks (length rows)) s r ≡ []
@@ -195,7 +194,7 @@ module _ {P : Type 0} (m : Meaning P) (ok : Lawful m) (rows : List (Row P)) (ran
           four = not-from-true _ (eq-eqb _ _ (a .four));
           places = numbered-all (placeFaults m rows) rows no-place;
           first = rw (f .1);
-          moves = numbered-all (moveFaults m rows (keeps ranks (length rows))) rows no-move
+          moves = numbered-all (moveFaults m rows (keeps ranks (length rows))) rows no-move;
         }
 
 verdict-nil : {R : Type 0} (r : R) (fs : List Fault) → isOk (verdict r fs) ≡ true → fs ≡ []
@@ -204,6 +203,7 @@ verdict-nil r (f ∷ fs) e = absurd (both-ways true (sym e) refl)
 
 -- The check accepts exactly the tables that are accepted in words.
 pub acceptance : {P : Type 0} (m : Meaning P) → Lawful m → (rows : List (Row P)) (ranks : List ℕ) → Decides (isOk (checked m rows ranks)) (Accepts m rows ranks)
-acceptance m ok rows ranks =
-    (λ e. accepts m ok rows ranks (clean m rows (keeps ranks (length rows)) (length ranks) (verdict-nil _ _ e)),
-    λ a. rw (faultless m rows (keeps ranks (length rows)) (length ranks) (cleaned m ok rows ranks a)))
+acceptance m ok rows ranks = (
+  λ e. accepts m ok rows ranks (clean m rows (keeps ranks (length rows)) (length ranks) (verdict-nil _ _ e)),
+  λ a. rw (faultless m rows (keeps ranks (length rows)) (length ranks) (cleaned m ok rows ranks a)),
+)

@@ -55,11 +55,11 @@ all-from f n (x ∷ xs) h = rw (h 0 n x (omega arith) refl, all-from f (suc n) x
 pub numbered-all : {X : Type 0} (f : ℕ → X → List Fault) (xs : List X) → ((k : ℕ) (x : X) → nth xs k ≡ Some x → f k x ≡ []) → numbered f 0 xs ≡ []
 numbered-all {X} f xs h = all-from f 0 xs (λ k j x q e. let F : ℕ → Type 0 = λ i. nth xs i ≡ Some x in h j x (let i : k ≡ j = omega arith in rw (← i) e))
 
--- a verdict by its list of faults
-pub verdict-ok : {R : Type 0} (r a : R) (fs : List Fault) → verdict r fs ≡ Ok a → (fs ≡ []) × (r ≡ a)
+-- a verdict, by what it answers
+pub verdict-ok : {R : Type 0} (r a : R) (fs : List Fault) → Ok a ≡ verdict r fs → (fs ≡ []) × (a ≡ r)
 verdict-ok r a [] e = (refl, cc)
 verdict-ok r a (f ∷ fs) e = let z : _≡_ {A = ℕ} 0 1 = cc in absurd (omega arith)
 
-pub verdict-err : {R S : Type 0} (r : R) (s : S) (fs gs : List Fault) (f : Fault) → verdict r fs ≡ Err f → verdict s (fs ++ gs) ≡ Err f
+pub verdict-err : {R S : Type 0} (r : R) (s : S) (fs gs : List Fault) (f : Fault) → Err f ≡ verdict r fs → Err f ≡ verdict s (fs ++ gs)
 verdict-err r s [] gs f e = let z : _≡_ {A = ℕ} 0 1 = cc in absurd (omega arith)
-verdict-err r s (g ∷ fs) gs f e = let q : g ≡ f = cc in ap {B = Result _ Fault} Err q
+verdict-err r s (g ∷ fs) gs f e = let q : f ≡ g = cc in ap {B = Result _ Fault} Err q

@@ -47,6 +47,10 @@ isOwn m r = m .owns (r .position) && (leb (m .priority (r .position)) (r .latch)
 abbrev pub placeFaults : {P : Type 0} → Meaning P → List (Row P) → ℕ → Row P → List Fault
 placeFaults m rows s r = when (not (isOwn m r)) (NotOwn s) ++ when (isBefore s (firstRow m rows (r .position) (r .latch))) (Repeated s)
 
+-- of the start: it has a row
+abbrev pub startFaults : {P : Type 0} → Meaning P → List (Row P) → List Fault
+startFaults m rows = when (not (isSome (startRow m rows))) NoStartRow
+
 -- A rule says of an outcome of colour c from row s to row t whether it may be.
 module _ {P : Type 0} (m : Meaning P) (rows : List (Row P)) (rule : ℕ → ℕ → ℕ → Bool) where
   -- of outcome i of row s, which has colour c: it leads to a row, by the rule
@@ -69,7 +73,7 @@ module _ {P : Type 0} (m : Meaning P) (rows : List (Row P)) (rule : ℕ → ℕ 
       when (ltb 1024 (length rows)) TooManyRows
       ++ (when (not (eqb given (4 * length rows))) WrongLengths
       ++ (numbered (placeFaults m rows) 0 rows
-      ++ (when (not (isSome (startRow m rows))) NoStartRow
+      ++ (startFaults m rows
       ++ numbered moveFaults 0 rows)))
 
 -- the number of all outcomes

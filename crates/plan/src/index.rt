@@ -1,0 +1,80 @@
+//! Rows found by their position and latch without a look at all of them.
+use arena::arena::Arena;
+use table::row::Row;
+ghost use mathlib.Core.Path.{_≡_};
+ghost use Prim.Native.Nat.{_≤_};
+ghost use lib.ListN.{length};
+ghost use Rattle.table.specs.Rows.{isFor, firstRow};
+ghost use Rattle.plan.specs.Index.{bucketOf, Indexes};
+
+/// The most rows that a table may have.
+pub(crate) const MAX_ROWS: usize = 1024;
+
+const BUCKETS: usize = 1021;
+
+/// How far apart the buckets of a position are for a latch and the next.
+const STRIDE: usize = 163;
+
+/// The bucket of a position and latch.
+fn bucket_of<A: Arena>(arena: &A, position: &A::Position, latch: u8) -> usize
+    ensures { λ r. ⌜ r ≡ bucketOf (A·Arena .meaning (now (arena .entry))) (now (position .entry)) latch ⌝ }
+{
+    (arena.digest(position) as usize + STRIDE * latch as usize) % BUCKETS
+}
+
+/// Whether a row is for this position and latch.
+fn is_for<A: Arena>(arena: &A, row: &Row<A::Position>, position: &A::Position, latch: u8) -> bool
+    ensures { λ r. ⌜ r ≡ isFor (A·Arena .meaning (now (arena .entry))) (now (position .entry)) latch (now (row .entry)) ⌝ }
+{
+    row.latch == latch && arena.same(&row.position, position)
+}
+
+/// Rows over their arena, in buckets: the first row of each bucket, and for each row the next one of its bucket. The
+/// number of rows stands for none.
+#[derive(Drop)]
+pub(crate) struct IndexedRows<'a, 'r, A: Arena> {
+    pub(crate) arena: &'a A,
+    pub(crate) rows: &'r [Row<A::Position>],
+    pub(crate) heads: [u16; BUCKETS],
+    pub(crate) links: [u16; MAX_ROWS],
+}
+
+impl<'a, 'r, A: Arena> IndexedRows<'a, 'r, A> {
+    /// These rows with their index.
+    pub(crate) fn new(arena: &'a A, rows: &'r [Row<A::Position>]) -> IndexedRows<'a, 'r, A>
+        requires { ⌜ length (now rows) ≤ 1024 ⌝ }
+        ensures arena { λ r. ⌜ now (r .arena) ≡ now (arena .entry) ⌝ }
+        ensures rows { λ r. ⌜ now (r .rows) ≡ now (rows .entry) ⌝ }
+        ensures index { λ r. ⌜ Indexes (A·Arena .meaning (now (r .arena))) (now (r .rows)) 0 (r .heads) (r .links) ⌝ }
+    {
+        let mut heads = [rows.len() as u16; BUCKETS];
+        let mut links = [0; MAX_ROWS];
+        for s in (0..rows.len()).rev() {
+            let row = &rows[s];
+            let bucket = bucket_of(arena, &row.position, row.latch);
+            links[s] = heads[bucket];
+            heads[bucket] = s as u16;
+        }
+        IndexedRows {
+            arena,
+            rows,
+            heads,
+            links,
+        }
+    }
+
+    /// The number of the first row with this position and latch.
+    pub(crate) fn row_of(&self, position: &A::Position, latch: u8) -> Option<usize>
+        requires { ⌜ Indexes (A·Arena .meaning (now (now self .arena))) (now (now self .rows)) 0 (now self .heads) (now self .links) ⌝ }
+        ensures { λ r. ⌜ r ≡ firstRow (A·Arena .meaning (now (now (self .entry) .arena))) (now (now (self .entry) .rows)) (now (position .entry)) latch ⌝ }
+    {
+        let mut at = self.heads[bucket_of(self.arena, position, latch)] as usize;
+        while at < self.rows.len() {
+            if is_for(self.arena, &self.rows[at], position, latch) {
+                return Some(at);
+            }
+            at = self.links[at] as usize;
+        }
+        None
+    }
+}
