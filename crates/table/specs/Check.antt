@@ -67,11 +67,11 @@ module _ {P : Type 0} (m : Meaning P) (rows : List (Row P)) (rule : ℕ → ℕ 
       when (not (m .legal (r .position) (r .choice))) (IllegalMove s)
       ++ numbered (outcomeFaults s (r .latch)) 0 (outcomesOf m r)
 
-  -- of a table with so many ranks, in the order of the tests
-  abbrev pub faults : ℕ → List Fault
-  faults given =
+  -- of a table beside lists that have their lengths or not, in the order of the tests
+  abbrev pub faults : Bool → List Fault
+  faults fit =
       when (ltb 1024 (length rows)) TooManyRows
-      ++ (when (not (eqb given (4 * length rows))) WrongLengths
+      ++ (when (not fit) WrongLengths
       ++ (numbered (placeFaults m rows) 0 rows
       ++ (startFaults m rows
       ++ numbered moveFaults 0 rows)))
@@ -83,4 +83,4 @@ outcomesIn m rows = sumBy (λ r. length (outcomesOf m r)) rows
 abbrev pub checked : {P : Type 0} → Meaning P → List (Row P) → List ℕ → Result Accepted Fault
 checked m rows ranks =
     verdict (record { rows = length rows; outcomes = outcomesIn m rows })
-    (faults m rows (keeps ranks (length rows)) (length ranks))
+    (faults m rows (keeps ranks (length rows)) (eqb (length ranks) (4 * length rows)))
