@@ -3,3 +3,5 @@ pub mod Ranks
 pub mod Lifts
 pub mod Rings
 pub mod Decides
+pub mod Arcs
+pub mod Tables

@@ -12,11 +12,11 @@ use Rattle.loops.specs.Graph.{Graph, Leads, largest, Losing, NoLoop, due, Keep
 
 module _ (g : Graph) (p : ℕ) (rank : ℕ → ℕ) (keeps : Keeps g p rank) where
   -- along colours up to p no rank rises
-  falls : (s i : ℕ) → s < g .size → i < g .count s → g .colour s i ≤ p → rank (g .to s i) ≤ rank s
+  pub falls : (s i : ℕ) → s < g .size → i < g .count s → g .colour s i ≤ p → rank (g .to s i) ≤ rank s
   falls s i b k c = omega (arith, keeps s i b k c)
 
   -- and it falls with colour p
-  falls-by : (s i : ℕ) → s < g .size → i < g .count s → g .colour s i ≡ p → rank (g .to s i) < rank s
+  pub falls-by : (s i : ℕ) → s < g .size → i < g .count s → g .colour s i ≡ p → rank (g .to s i) < rank s
   falls-by s i b k c =
       let q : cond {A = ℕ} (eqb (g .colour s i) p) 1 0 ≡ 1 = rw (eq-eqb (g .colour s i) p c) in
       omega (arith, keeps s i b k (omega arith))

@@ -46,7 +46,7 @@ keeps-falls ranks n p c s t e =
     (cond-ways (eqb p c) _ _ q))
     (or-cases (ltb p c) _ e)
 
-falls-keeps : (ranks : List ℕ) (n p c s t : ℕ) → Falls ranks n p c s t → keepsFor ranks n p c s t ≡ true
+pub falls-keeps : (ranks : List ℕ) (n p c s t : ℕ) → Falls ranks n p c s t → keepsFor ranks n p c s t ≡ true
 falls-keeps ranks n p c s t f =
     ⊎-elim
     (λ (h : p < c). or-left _ _ (lt-ltb p c h))
@@ -58,7 +58,7 @@ falls-keeps ranks n p c s t f =
     (cases-eq p c)))
     (cases-lt p c)
 
-odd : (p : ℕ) → p % 2 ≡ 1 → p ≤ 7 → (p ≡ 1) ⊎ ((p ≡ 3) ⊎ ((p ≡ 5) ⊎ (p ≡ 7)))
+pub odd : (p : ℕ) → p % 2 ≡ 1 → p ≤ 7 → (p ≡ 1) ⊎ ((p ≡ 3) ⊎ ((p ≡ 5) ⊎ (p ≡ 7)))
 odd p e b =
     ⊎-elim inl
     (λ (n1 : p ≡ 1 → ⊥).
@@ -68,7 +68,7 @@ odd p e b =
     (cases-eq p 3)))
     (cases-eq p 1)
 
-keeps-odd : (ranks : List ℕ) (n c s t p : ℕ) → keeps ranks n c s t ≡ true → p % 2 ≡ 1 → p ≤ 7 → keepsFor ranks n p c s t ≡ true
+pub keeps-odd : (ranks : List ℕ) (n c s t p : ℕ) → keeps ranks n c s t ≡ true → p % 2 ≡ 1 → p ≤ 7 → keepsFor ranks n p c s t ≡ true
 keeps-odd ranks n c s t p e o b =
     let one = and-parts _ _ e in
     let three = and-parts _ _ (one .1) in
