@@ -1,0 +1,3 @@
+//! Ranks for a table, or a losing loop of it.
+mod arc;
+mod lifting;
