@@ -1,1 +1,2 @@
 pub mod Raises
+pub mod Sweeps

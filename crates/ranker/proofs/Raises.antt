@@ -16,20 +16,38 @@ use Rattle.loops.specs.Lifting.{Lifted}
 use Rattle.loops.proofs.Lifts.{lifted-none, lifted-more}
 use Rattle.ranker.specs.declared.arc.Arc.{Arc}
 use Rattle.ranker.specs.Arcs.{arcAt, IsArc, StandsFor, Tells, Told}
-use Rattle.ranker.specs.Lifts.{rankIn, pickIn, dueBy, Met, Below, slack, Lifts}
+use Rattle.ranker.specs.Lifts.{rankIn, pickIn, dueBy, Met, Below, slack, Lifts, Smallest}
 
 -- what an arc asks for is what its outcome asks for
 due-is : (g : Graph) (p : ℕ) (ranks : List ℕ) (a : Arc) → IsArc g a → dueBy p ranks a ≡ due g p (rankIn ranks) (a .row) (a .outcome)
 due-is g p ranks a x = rw (x .colour, x .to)
 
 -- ranks that meet every arc keep the rule
-pub met-keeps : (g : Graph) (p : ℕ) (arcs : List Arc) (ranks : List ℕ) → Tells (length ranks) arcs g → ((k : ℕ) → k < length arcs → Met p ranks (arcAt arcs k)) → Keeps g p (rankIn ranks)
+met-keeps : (g : Graph) (p : ℕ) (arcs : List Arc) (ranks : List ℕ) → Tells (length ranks) arcs g → ((k : ℕ) → k < length arcs → Met p ranks (arcAt arcs k)) → Keeps g p (rankIn ranks)
 met-keeps g p arcs ranks tells met s i b k c =
     let w = tells .whole s i b k in
     let x = w .1 in
     let m = met (w .0) (x .there) in
     let e : dueBy p ranks (arcAt arcs (w .0)) ≡ due g p (rankIn ranks) s i = rw (x .colour, x .to) in
     omega (arith, m (omega (arith, x .colour)), ap (rankIn ranks) (x .row))
+
+-- at first all ranks are 0
+pub lifts-none : (arcs : List Arc) (p : ℕ) (ranks by : List ℕ) → ((s : ℕ) → s < length ranks → rankIn ranks s ≡ 0) → Lifts arcs p ranks by
+lifts-none arcs p ranks by zeros =
+    record {
+      own = λ s b h. absurd (omega (arith, zeros s b));
+      lifted = λ g tells. lifted-none g p (rankIn ranks) (pickIn arcs by) (λ s b. zeros s (omega (arith, tells .size)))
+    }
+
+-- and once every arc is met they are the smallest that keep the rule
+pub met-smallest : (g : Graph) (p : ℕ) (arcs : List Arc) (ranks by : List ℕ) → Tells (length ranks) arcs g → Lifts arcs p ranks by → Below ranks →
+    ((k : ℕ) → k < length arcs → Met p ranks (arcAt arcs k)) → Smallest g p (rankIn ranks)
+met-smallest g p arcs ranks by tells up below met =
+    record {
+      keeps = met-keeps g p arcs ranks tells met;
+      below = λ s b. omega (arith, tells .size, below s (omega (arith, tells .size)));
+      least = up .lifted g tells .least
+    }
 
 module _ (arcs : List Arc) (p : ℕ) (ranks by : List ℕ) (k v : ℕ) (told : Told (length ranks) arcs) (there : k < length arcs) (room : length ranks ≤ length by)
     (small : arcAt arcs k .colour ≤ p) (is : v ≡ dueBy p ranks (arcAt arcs k)) (up : rankIn ranks (arcAt arcs k .row) < v) where

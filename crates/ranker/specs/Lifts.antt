@@ -55,3 +55,6 @@ pub record Smallest (g : Graph) (p : ℕ) (rank : ℕ → ℕ) : Type 0 where
   pub keeps : Keeps g p rank
   pub below : (s : ℕ) → s < g .size → rank s < g .size
   pub least : (other : ℕ → ℕ) → Keeps g p other → (s : ℕ) → s < g .size → rank s ≤ other s
+
+abbrev pub AllSmallest : List Arc → ℕ → List ℕ → Type 0
+AllSmallest arcs p ranks = (g : Graph) → Tells (length ranks) arcs g → Smallest g p (rankIn ranks)
