@@ -7,6 +7,7 @@ use Rattle.std.specs.Finite.{nth}
 use Rattle.std.specs.declared.option.Option.the-variants.{Some}
 use Rattle.arena.specs.Meaning.{Meaning}
 use Rattle.table.specs.declared.row.Row.{Row}
+use Rattle.plan.specs.declared.index.IndexedRows.{IndexedRows}
 
 -- the bucket of a position and latch
 abbrev pub bucketOf : {P : Type 0} → Meaning P → P → ℕ → ℕ
@@ -27,3 +28,7 @@ pub record Indexes {P : Type 0} (m : Meaning P) (rows : List (Row P)) (s : ℕ) 
   pub few : length rows ≤ 1024
   pub first : (b : ℕ) → b < 1021 → NextIn m rows b s (getD heads b 0)
   pub next : (k : ℕ) (r : Row P) → s ≤ k → nth rows k ≡ Some r → NextIn m rows (bucketAt m r) (suc k) (getD links k 0)
+
+-- the buckets of indexed rows are right, by the meaning of their arena
+abbrev pub Sound : {S P L : Type 0} → (S → Meaning P) → IndexedRows S P L → Type 0
+Sound meaning x = Indexes (meaning (x .arena .now)) (x .rows .now) 0 (x .heads) (x .links)

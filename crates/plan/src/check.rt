@@ -1,13 +1,16 @@
 //! The check of a table with its ranks.
 use crate::index::IndexedRows;
-use crate::index::MAX_ROWS;
+use crate::ranks::Passage;
+use crate::ranks::RANKS_PER_ROW;
 use crate::ranks::keeps;
-use crate::rounds::colour_of;
-use crate::rounds::latch_after;
 use arena::arena::Arena;
 use arena::moves::Outcome;
 use table::accepted::Accepted;
 use table::fault::Fault;
+use table::rounds::colour_of;
+use table::rounds::latch_after;
+use table::row::MAX_LATCH;
+use table::row::MAX_ROWS;
 use table::row::Row;
 ghost use mathlib.Core.Path.{_≡_};
 ghost use Prim.Native.Nat.{_*_, _<_, _≤_};
@@ -18,12 +21,7 @@ ghost use Rattle.table.specs.Ranks.{keeps as keepsAll};
 ghost use Rattle.table.specs.Rows.{outcomesOf, startRow};
 ghost use Rattle.table.specs.Check.{numbered, verdict, isOwn, placeFaults, startFaults, outcomeFaults, moveFaults, outcomesIn, checked};
 ghost use Rattle.table.specs.Accepts.{Accepts};
-ghost use Rattle.plan.specs.Index.{Indexes};
-
-/// How many ranks each row has: one for each odd colour.
-const RANKS_PER_ROW: usize = 4;
-
-const MAX_LATCH: u8 = 5;
+ghost use Rattle.plan.specs.Index.{Sound};
 
 /// Whether a row stands at an own position, with a latch from the priority there to the largest.
 fn is_own<A: Arena>(arena: &A, row: &Row<A::Position>) -> bool
@@ -40,7 +38,7 @@ fn check_place<A: Arena>(
     s: usize,
     row: &Row<A::Position>,
 ) -> Result<(), Fault>
-    requires { ⌜ Indexes (A·Arena .meaning (now (now table .arena))) (now (now table .rows)) 0 (now table .heads) (now table .links) ⌝ ∗ ⌜ s < length (now (now table .rows)) ⌝ }
+    requires { ⌜ Sound (A·Arena .meaning) (now table) ⌝ ∗ ⌜ s < length (now (now table .rows)) ⌝ }
     ensures { λ r. ⌜ r ≡ verdict tt (placeFaults (A·Arena .meaning (now (now (table .entry) .arena))) (now (now (table .entry) .rows)) s (now (row .entry))) ⌝ }
 {
     if !is_own(table.arena, row) {
@@ -54,7 +52,7 @@ fn check_place<A: Arena>(
 
 /// Tests where each row stands.
 fn check_places<A: Arena>(table: &IndexedRows<'_, '_, A>) -> Result<(), Fault>
-    requires { ⌜ Indexes (A·Arena .meaning (now (now table .arena))) (now (now table .rows)) 0 (now table .heads) (now table .links) ⌝ }
+    requires { ⌜ Sound (A·Arena .meaning) (now table) ⌝ }
     ensures { λ r. ⌜ r ≡ verdict tt (numbered (placeFaults (A·Arena .meaning (now (now (table .entry) .arena))) (now (now (table .entry) .rows))) 0 (now (now (table .entry) .rows))) ⌝ }
 {
     for (s, row) in table.rows.iter().enumerate() {
@@ -65,7 +63,7 @@ fn check_places<A: Arena>(table: &IndexedRows<'_, '_, A>) -> Result<(), Fault>
 
 /// Tests that the start has a row.
 fn check_start<A: Arena>(table: &IndexedRows<'_, '_, A>) -> Result<(), Fault>
-    requires { ⌜ Indexes (A·Arena .meaning (now (now table .arena))) (now (now table .rows)) 0 (now table .heads) (now table .links) ⌝ }
+    requires { ⌜ Sound (A·Arena .meaning) (now table) ⌝ }
     ensures { λ r. ⌜ r ≡ verdict tt (startFaults (A·Arena .meaning (now (now (table .entry) .arena))) (now (now (table .entry) .rows))) ⌝ }
 {
     let start = table.arena.start();
@@ -85,7 +83,7 @@ fn check_outcome<A: Arena>(
     number: u16,
     outcome: &Outcome<A::Position>,
 ) -> Result<(), Fault>
-    requires { ⌜ Indexes (A·Arena .meaning (now (now table .arena))) (now (now table .rows)) 0 (now table .heads) (now table .links) ⌝ ∗ ⌜ s < length (now (now table .rows)) ⌝ ∗ ⌜ length (now ranks) ≡ 4 * length (now (now table .rows)) ⌝ }
+    requires { ⌜ Sound (A·Arena .meaning) (now table) ⌝ ∗ ⌜ s < length (now (now table .rows)) ⌝ ∗ ⌜ length (now ranks) ≡ 4 * length (now (now table .rows)) ⌝ }
     ensures { λ r. ⌜ r ≡ verdict tt (outcomeFaults (A·Arena .meaning (now (now (table .entry) .arena))) (now (now (table .entry) .rows)) (keepsAll (now (ranks .entry)) (length (now (now (table .entry) .rows)))) s latch number (now (outcome .entry))) ⌝ }
 {
     let next = latch_after(table.arena, latch, outcome);
@@ -95,7 +93,12 @@ fn check_outcome<A: Arena>(
             outcome: number,
         });
     };
-    if keeps(ranks, table.rows.len(), colour_of(latch, outcome), s, t) {
+    let passage = Passage {
+        colour: colour_of(latch, outcome),
+        from: s,
+        to: t,
+    };
+    if keeps(ranks, table.rows.len(), passage) {
         Ok(())
     } else {
         Err(Fault::RankRule {
@@ -112,7 +115,7 @@ fn check_move<A: Arena>(
     s: usize,
     row: &Row<A::Position>,
 ) -> Result<u16, Fault>
-    requires { ⌜ Indexes (A·Arena .meaning (now (now table .arena))) (now (now table .rows)) 0 (now table .heads) (now table .links) ⌝ ∗ ⌜ s < length (now (now table .rows)) ⌝ ∗ ⌜ length (now ranks) ≡ 4 * length (now (now table .rows)) ⌝ }
+    requires { ⌜ Sound (A·Arena .meaning) (now table) ⌝ ∗ ⌜ s < length (now (now table .rows)) ⌝ ∗ ⌜ length (now ranks) ≡ 4 * length (now (now table .rows)) ⌝ }
     ensures { λ r. ⌜ r ≡ verdict (length (outcomesOf (A·Arena .meaning (now (now (table .entry) .arena))) (now (row .entry)))) (moveFaults (A·Arena .meaning (now (now (table .entry) .arena))) (now (now (table .entry) .rows)) (keepsAll (now (ranks .entry)) (length (now (now (table .entry) .rows)))) s (now (row .entry))) ⌝ }
 {
     if !table.arena.legal(&row.position, row.choice) {
@@ -129,7 +132,7 @@ fn check_move<A: Arena>(
 
 /// Tests the move of each row and tells how many outcomes there are in all.
 fn check_moves<A: Arena>(table: &IndexedRows<'_, '_, A>, ranks: &[u16]) -> Result<u32, Fault>
-    requires { ⌜ Indexes (A·Arena .meaning (now (now table .arena))) (now (now table .rows)) 0 (now table .heads) (now table .links) ⌝ ∗ ⌜ length (now ranks) ≡ 4 * length (now (now table .rows)) ⌝ }
+    requires { ⌜ Sound (A·Arena .meaning) (now table) ⌝ ∗ ⌜ length (now ranks) ≡ 4 * length (now (now table .rows)) ⌝ }
     ensures { λ r. ⌜ r ≡ verdict (outcomesIn (A·Arena .meaning (now (now (table .entry) .arena))) (now (now (table .entry) .rows))) (numbered (moveFaults (A·Arena .meaning (now (now (table .entry) .arena))) (now (now (table .entry) .rows)) (keepsAll (now (ranks .entry)) (length (now (now (table .entry) .rows))))) 0 (now (now (table .entry) .rows))) ⌝ }
 {
     let mut outcomes = 0;

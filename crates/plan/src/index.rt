@@ -1,14 +1,12 @@
 //! Rows found by their position and latch without a look at all of them.
 use arena::arena::Arena;
+use table::row::MAX_ROWS;
 use table::row::Row;
 ghost use mathlib.Core.Path.{_≡_};
 ghost use Prim.Native.Nat.{_≤_};
 ghost use lib.ListN.{length};
 ghost use Rattle.table.specs.Rows.{isFor, firstRow};
-ghost use Rattle.plan.specs.Index.{bucketOf, Indexes};
-
-/// The most rows that a table may have.
-pub(crate) const MAX_ROWS: usize = 1024;
+ghost use Rattle.plan.specs.Index.{bucketOf, Sound};
 
 const BUCKETS: usize = 1021;
 
@@ -45,7 +43,7 @@ impl<'a, 'r, A: Arena> IndexedRows<'a, 'r, A> {
         requires { ⌜ length (now rows) ≤ 1024 ⌝ }
         ensures arena { λ r. ⌜ now (r .arena) ≡ now (arena .entry) ⌝ }
         ensures rows { λ r. ⌜ now (r .rows) ≡ now (rows .entry) ⌝ }
-        ensures index { λ r. ⌜ Indexes (A·Arena .meaning (now (r .arena))) (now (r .rows)) 0 (r .heads) (r .links) ⌝ }
+        ensures index { λ r. ⌜ Sound (A·Arena .meaning) r ⌝ }
     {
         let mut heads = [rows.len() as u16; BUCKETS];
         let mut links = [0; MAX_ROWS];
@@ -65,7 +63,7 @@ impl<'a, 'r, A: Arena> IndexedRows<'a, 'r, A> {
 
     /// The number of the first row with this position and latch.
     pub(crate) fn row_of(&self, position: &A::Position, latch: u8) -> Option<usize>
-        requires { ⌜ Indexes (A·Arena .meaning (now (now self .arena))) (now (now self .rows)) 0 (now self .heads) (now self .links) ⌝ }
+        requires { ⌜ Sound (A·Arena .meaning) (now self) ⌝ }
         ensures { λ r. ⌜ r ≡ firstRow (A·Arena .meaning (now (now (self .entry) .arena))) (now (now (self .entry) .rows)) (now (position .entry)) latch ⌝ }
     {
         let mut at = self.heads[bucket_of(self.arena, position, latch)] as usize;

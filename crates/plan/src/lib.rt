@@ -2,4 +2,3 @@
 pub mod check;
 mod index;
 mod ranks;
-pub mod rounds;

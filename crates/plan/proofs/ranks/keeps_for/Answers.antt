@@ -8,7 +8,7 @@ rank-place : (p n s : ℕ) → p ≤ 7 → s < n → p / 2 * n + s < 4 * n
 rank-place p n s h b = let q : p / 2 ≤ 3 = omega arith in omega (arith, mul-le-mul-right n q)
 
 pub index-ranks-base : need.index-ranks-base
-index-ranks-base c = omega (arith, rank-place (c .args .p) (c .args .n) (c .args .s) (omega arith) (omega arith))
+index-ranks-base c = omega (arith, rank-place (c .args .p) (c .args .n) (c .args .passage .from) (omega arith) (omega arith))
 
 pub index-ranks-base-2 : need.index-ranks-base-2
-index-ranks-base-2 c = omega (arith, rank-place (c .args .p) (c .args .n) (c .args .t) (omega arith) (omega arith))
+index-ranks-base-2 c = omega (arith, rank-place (c .args .p) (c .args .n) (c .args .passage .to) (omega arith) (omega arith))
