@@ -1,27 +1,25 @@
 -- What stands behind the graph of a table.
 use mathlib.Core.Path.{_≡_, refl, sym, ap, subst, _∙_}
-use mathlib.Core.Bool.{Bool, true, false, not, cond}
-use mathlib.Core.Logic.{_⊎_, inl, inr, ⊎-elim}
+use mathlib.Core.Bool.{Bool, true, not}
 use mathlib.Core.List.{List, [], _∷_, _++_}
 use Prim.Native.Nat.{ℕ, zero, suc, _+_, _*_, _%_, _<_, _≤_, max}
 use native.Mathlib.Omega.{arith}
-use lib.Dec.{ltb, leb}
+use lib.Dec.{ltb}
 use lib.ListN.{length}
 use Rattle.std.specs.Finite.{nth}
 use Rattle.std.specs.declared.option.Option.{Option}
 use Rattle.std.specs.declared.option.Option.the-variants.{None, Some}
-use Rattle.std.proofs.shelf.Tests.{and-parts, not-false, leb-true, ltb-false, both-ways}
+use Rattle.std.proofs.shelf.Tests.{not-false, ltb-false}
 use Rattle.arena.specs.Meaning.{Meaning}
 use Rattle.arena.specs.declared.moves.Outcome.{Outcome}
-use Rattle.arena.specs.declared.moves.Side.{Side}
-use Rattle.arena.specs.declared.moves.Side.the-variants.{Us, Them}
 use Rattle.table.specs.declared.row.Row.{Row}
 use Rattle.table.specs.declared.fault.Fault.{Fault}
-use Rattle.table.specs.declared.fault.Fault.the-variants.{TooManyRows, NotOwn, IllegalMove, WrongLengths}
-use Rattle.table.specs.Colours.{sideColour, colourOf}
+use Rattle.table.specs.declared.fault.Fault.the-variants.{TooManyRows, IllegalMove}
+use Rattle.table.specs.Colours.{colourOf}
 use Rattle.table.specs.Rows.{rowAfter, outcomesOf}
-use Rattle.table.specs.Check.{when, numbered, isOwn, placeFaults, startFaults, targetFaults, outcomeFaults, moveFaults, faults}
+use Rattle.table.specs.Check.{when, numbered, placeFaults, startFaults, targetFaults, outcomeFaults, moveFaults, faults}
 use Rattle.table.proofs.Lists.{none-some, cons-nil, append-nil, when-nil, numbered-nil, numbered-all, nth-within}
+use Rattle.table.proofs.Bounds.{small-colour, small-latch}
 use Rattle.table.proofs.Finds.{first-within}
 use Rattle.loops.specs.declared.pair.Pair.{Pair}
 use Rattle.loops.specs.Graph.{Graph, Closed, Leads, largest}
@@ -45,13 +43,6 @@ clean m rows rule e =
     let c = append-nil (numbered (placeFaults m rows) 0 rows) _ (a .1) in
     let d = append-nil (startFaults m rows) _ (c .1) in
     record { few = ltb-false _ _ (when-nil _ _ (a .0)); places = c .0; first = d .0; moves = d .1 }
-
-small-colour : {P : Type 0} (l : ℕ) (o : Outcome P) → l ≤ 5 → colourOf l o ≤ 7
-small-colour l o h = elim (o .ticked) as (λ b. cond b (l + 2) (sideColour (o .by)) ≤ 7) [ true ↦ omega arith | false ↦ by-side (o .by) ]
-  where
-    by-side : (x : Side) → sideColour x ≤ 7
-    by-side Us = omega arith
-    by-side Them = omega arith
 
 module _ {P : Type 0} (m : Meaning P) (rows : List (Row P)) (rule : ℕ → ℕ → ℕ → Bool) where
   -- outcome i of row s
@@ -111,9 +102,7 @@ module _ {P : Type 0} (m : Meaning P) (rows : List (Row P)) (rule : ℕ → ℕ 
     small : (s i : ℕ) → s < length rows → i < graphOf m rows .count s → graphOf m rows .colour s i ≤ 7
     small s i b k =
         let a = arc s i b k in
-        let q = append-nil (when (not (isOwn m (a .row))) (NotOwn s)) _ (numbered-nil (placeFaults m rows) rows (clean m rows rule none .places) s (a .row) (a .there)) in
-        let own = and-parts (m .owns (a .row .position)) _ (not-false _ (when-nil _ _ (q .0))) in
-        let l : a .row .latch ≤ 5 = leb-true _ _ (and-parts (leb (m .priority (a .row .position)) (a .row .latch)) _ (own .1) .1) in
+        let l = small-latch m rows (clean m rows rule none .places) s (a .row) (a .there) in
         omega (arith, arc-colour s i a, small-colour (a .row .latch) (a .outcome) l)
 
     -- no loop has a larger colour than 7

@@ -25,7 +25,7 @@ abbrev pub when : Bool → Fault → List Fault
 when b f = cond b (f ∷ []) []
 
 -- what f finds at each of xs, numbered from n on
-abbrev pub numbered : {X : Type 0} → (ℕ → X → List Fault) → ℕ → List X → List Fault
+abbrev pub numbered : {X Y : Type 0} → (ℕ → X → List Y) → ℕ → List X → List Y
 numbered f n [] = []
 numbered f n (x ∷ xs) = f n x ++ numbered f (suc n) xs
 
@@ -80,7 +80,10 @@ module _ {P : Type 0} (m : Meaning P) (rows : List (Row P)) (rule : ℕ → ℕ 
 abbrev pub outcomesIn : {P : Type 0} → Meaning P → List (Row P) → ℕ
 outcomesIn m rows = sumBy (λ r. length (outcomesOf m r)) rows
 
+-- a table's verdict under a rule, beside lists that have their lengths or not
+abbrev pub judged : {P : Type 0} → Meaning P → List (Row P) → (ℕ → ℕ → ℕ → Bool) → Bool → Result Accepted Fault
+judged m rows rule fit = verdict (record { rows = length rows; outcomes = outcomesIn m rows }) (faults m rows rule fit)
+
+-- the check's: the ranks keep their rule
 abbrev pub checked : {P : Type 0} → Meaning P → List (Row P) → List ℕ → Result Accepted Fault
-checked m rows ranks =
-    verdict (record { rows = length rows; outcomes = outcomesIn m rows })
-    (faults m rows (keeps ranks (length rows)) (eqb (length ranks) (4 * length rows)))
+checked m rows ranks = judged m rows (keeps ranks (length rows)) (eqb (length ranks) (4 * length rows))
