@@ -31,4 +31,4 @@ pub record Indexes {P : Type 0} (m : Meaning P) (rows : List (Row P)) (s : ℕ) 
 
 -- the buckets of indexed rows are right, by the meaning of their arena
 abbrev pub Sound : {S P L : Type 0} → (S → Meaning P) → IndexedRows S P L → Type 0
-Sound meaning x = Indexes (meaning (x .arena .now)) (x .rows .now) 0 (x .heads) (x .links)
+Sound meaning x = Indexes (meaning (x .arena .now)) (x .rows .now) 0 (x .buckets .heads) (x .buckets .links)

@@ -5,6 +5,6 @@ use Rattle.plan.proofs.index.IndexedRows.new.Given as given
 
 abbrev pub Inv-loop-s : given.InvT-loop-s
 Inv-loop-s g l =
-    Indexes (g .A·Arena .meaning (l .arena)) (l .rows) (l .s) (l .heads) (l .links)
-    × (length (l .heads) ≡ 1021)
-    × (length (l .links) ≡ 1024)
+    Indexes (g .A·Arena .meaning (l .arena)) (l .rows) (l .s) (l .buckets .heads) (l .buckets .links)
+    × (length (l .buckets .heads) ≡ 1021)
+    × (length (l .buckets .links) ≡ 1024)
