@@ -1,2 +1,4 @@
 pub mod Raises
 pub mod Sweeps
+pub mod Noting
+pub mod Telling

@@ -1,8 +1,5 @@
 //! Arcs between rows.
 
-/// The most rows that a table may have.
-pub(crate) const MAX_ROWS: usize = 1024;
-
 /// An outcome of a row's move, by its number, with its colour and the row that it leads to. It stands for all outcomes of
 /// the row with this colour and target.
 #[derive(Clone, Copy)]

@@ -1,3 +1,5 @@
 //! Ranks for a table, or a losing loop of it.
 mod arc;
 mod lifting;
+mod notes;
+pub mod scratch;
