@@ -2,5 +2,5 @@
 pub mod check;
 mod index;
 pub mod passage;
-mod ranks;
+pub mod ranks;
 pub mod visitor;

@@ -9,7 +9,7 @@ ghost use Rattle.table.specs.Ranks.{keepsFor};
 ghost use Rattle.table.specs.Ranks.{keeps as keepsAll};
 
 /// How many ranks each row has: one for each odd colour.
-const RANKS_PER_ROW: usize = 4;
+pub const RANKS_PER_ROW: usize = 4;
 
 /// Whether the ranks of n rows for the odd colour p keep their rule at a passage.
 fn keeps_for(ranks: &[u16], n: usize, p: u16, passage: Passage) -> bool

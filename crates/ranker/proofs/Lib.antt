@@ -2,3 +2,4 @@ pub mod Raises
 pub mod Sweeps
 pub mod Noting
 pub mod Telling
+pub mod Writing

@@ -31,6 +31,14 @@ met-keeps g p arcs ranks tells met s i b k c =
     let e : dueBy p ranks (arcAt arcs (w .0)) ≡ due g p (rankIn ranks) s i = rw (x .colour, x .to) in
     omega (arith, m (omega (arith, x .colour)), ap (rankIn ranks) (x .row))
 
+-- the arc that lifted a row leads where its outcome does
+pub leads : (arcs : List Arc) (p : ℕ) (ranks by : List ℕ) → Lifts arcs p ranks by → (s : ℕ) → s < length ranks → 0 < rankIn ranks s →
+    (g : Graph) → Tells (length ranks) arcs g → g .to s (pickIn arcs by s) ≡ arcAt arcs (getD by s 0) .to
+leads arcs p ranks by up s b h g tells =
+    let o = up .own s b h in
+    let x = tells .true (getD by s 0) (o .0) in
+    sym (x .to ∙ ap (λ (r : ℕ). g .to r (pickIn arcs by s)) (o .1))
+
 -- at first all ranks are 0
 pub lifts-none : (arcs : List Arc) (p : ℕ) (ranks by : List ℕ) → ((s : ℕ) → s < length ranks → rankIn ranks s ≡ 0) → Lifts arcs p ranks by
 lifts-none arcs p ranks by zeros =

@@ -1,3 +1,4 @@
 pub mod Arcs
 pub mod Lifts
 pub mod Notes
+pub mod Loops

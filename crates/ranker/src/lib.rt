@@ -2,4 +2,5 @@
 mod arc;
 mod lifting;
 mod notes;
+pub mod ranker;
 pub mod scratch;

@@ -4,6 +4,7 @@ use crate::scratch::COLOURS;
 use crate::scratch::KEYS;
 use crate::scratch::Scratch;
 use plan::passage::Passage;
+use plan::ranks::RANKS_PER_ROW;
 use plan::visitor::Visitor;
 ghost use mathlib.Core.Bool.{true, _&&_};
 ghost use Prim.Native.Nat.{_*_};
@@ -31,7 +32,7 @@ pub impl Visitor for Notes as NotesVisitor {
     fn begin(&mut self, rows: usize) -> bool {
         self.scratch.arcs.clear();
         self.stamps.fill(0);
-        self.ranks == 4 * rows && rows <= self.pairs
+        self.ranks == RANKS_PER_ROW * rows && rows <= self.pairs
     }
 
     fn visit(&mut self, _rows: usize, passage: Passage) -> bool {

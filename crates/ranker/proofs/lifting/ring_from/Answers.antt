@@ -1,15 +1,13 @@
 use mathlib.Core.Path.{_≡_, sym, ap, subst, _∙_}
-use mathlib.Core.List.{List}
 use Prim.Native.Nat.{ℕ, _<_}
 use native.Mathlib.Omega.{arith}
-use lib.ListN.{length, getD}
+use lib.ListN.{length}
 use borrow.Author.Count.{below-more}
 use Rattle.loops.specs.Graph.{Graph}
 use Rattle.loops.specs.Lifting.{after, OnRing}
 use Rattle.loops.proofs.Rings.{after-more, most-steps, on-ring}
-use Rattle.ranker.specs.declared.arc.Arc.{Arc}
-use Rattle.ranker.specs.Arcs.{arcAt, Tells}
-use Rattle.ranker.specs.Lifts.{rankIn, pickIn, Lifts}
+use Rattle.ranker.specs.Lifts.{rankIn, pickIn}
+use Rattle.ranker.proofs.Raises.{leads}
 use Rattle.ranker.proofs.lifting.ring_from.Needs as need
 
 pub returns-then-ranks-at-eq0 : need.returns-then-ranks-at-eq0
@@ -24,14 +22,6 @@ returns-then-ranks-at-eq0 c =
 
 pub index-arcs-by : need.index-arcs-by
 index-arcs-by c = c .pre .lifts .1 .own (c .loop-step .at) (c .loop-step .inv .0) (omega arith) .0
-
--- the arc that lifted a row leads where its outcome does
-leads : (arcs : List Arc) (p : ℕ) (ranks by : List ℕ) → Lifts arcs p ranks by → (s : ℕ) → s < length ranks → 0 < rankIn ranks s →
-    (g : Graph) → Tells (length ranks) arcs g → g .to s (pickIn arcs by s) ≡ arcAt arcs (getD by s 0) .to
-leads arcs p ranks by up s b h g tells =
-    let o = up .own s b h in
-    let x = tells .true (getD by s 0) (o .0) in
-    sym (x .to ∙ ap (λ (r : ℕ). g .to r (pickIn arcs by s)) (o .1))
 
 pub loop-step-again : need.loop-step-again
 loop-step-again c =

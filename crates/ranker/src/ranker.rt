@@ -1,0 +1,54 @@
+//! The ranker.
+use crate::arc::Arc;
+use crate::lifting::rank_colour;
+use loops::pair::Pair;
+use plan::ranks::RANKS_PER_ROW;
+use table::fault::Fault;
+use table::row::MAX_ROWS;
+ghost use mathlib.Core.Path.{_≡_};
+ghost use mathlib.Core.List.{List};
+ghost use Prim.Native.Nat.{ℕ, _*_, _%_, _<_, _≤_, _^_};
+ghost use lib.ListN.{length};
+ghost use Rattle.loops.specs.Graph.{Graph};
+ghost use Rattle.ranker.specs.Arcs.{Tells, Told};
+ghost use Rattle.ranker.specs.Loops.{Written, Ringed, Drafted};
+
+/// Writes the ring of arcs that a row lies on to the front of the list, from that row on, and tells its length.
+fn write_loop(arcs: &[Arc], by: &[u32], row: u16, losing: &mut [Pair]) -> u16
+    requires ring { ⌜ ((p : ℕ) × ((ranks : List ℕ) × (Ringed (now arcs) p ranks (now by) row × Told (length ranks) (now arcs) × (length ranks ≤ 1024) × (length ranks ≤ length (now by)) × (length ranks ≤ length (now losing))))) ⌝ }
+    ensures { λ r. ⌜ ((p : ℕ) (ranks : List ℕ) (g : Graph) → Ringed (now (arcs .entry)) p ranks (now (by .entry)) row → Tells (length ranks) (now (arcs .entry)) g → p % 2 ≡ 1 → Written g p (now (losing .entry)) r (now (losing .exit))) ⌝ }
+{
+    let mut at = row;
+    let mut length = 0;
+    loop {
+        let arc = arcs[by[at as usize] as usize];
+        losing[length as usize] = Pair {
+            row: at,
+            outcome: arc.outcome,
+        };
+        length += 1;
+        at = arc.to;
+        if at == row {
+            return length;
+        }
+    }
+}
+
+/// Drafts the smallest ranks for each odd colour, in its stretch of n ranks; or writes a losing loop of the smallest odd
+/// colour that is the largest of one.
+fn draft_ranks(arcs: &[Arc], n: usize, draft: &mut [u16], losing: &mut [Pair]) -> Result<(), Fault>
+    requires lengths { ⌜ length (now arcs) ≤ 2 ^ 24 ⌝ ∗ ⌜ n ≤ 1024 ⌝ ∗ ⌜ length (now draft) ≡ 4 * n ⌝ ∗ ⌜ n ≤ length (now losing) ⌝ }
+    requires told { ⌜ Told n (now arcs) ⌝ }
+    ensures { λ r. ⌜ ((g : Graph) → Tells n (now (arcs .entry)) g → Drafted g n (now (losing .entry)) r (now (draft .exit)) (now (losing .exit))) ⌝ }
+{
+    let mut by = [0; MAX_ROWS];
+    for q in 0..RANKS_PER_ROW {
+        let colour = 2 * q as u8 + 1;
+        let stretch = &mut draft[q * n..(q + 1) * n];
+        if let Some(row) = rank_colour(arcs, colour, stretch, &mut by) {
+            let length = write_loop(arcs, &by, row, losing);
+            return Err(Fault::LosingLoop { length, colour });
+        }
+    }
+    Ok(())
+}
