@@ -3,3 +3,4 @@ pub mod Sweeps
 pub mod Noting
 pub mod Telling
 pub mod Writing
+pub mod Stretches
