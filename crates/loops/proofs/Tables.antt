@@ -63,13 +63,13 @@ verdict-nil r (f ∷ fs) e = absurd (both-ways true (sym e) refl)
 
 module _ {P : Type 0} (m : Meaning P) (rows : List (Row P)) where
   -- without faults the lists have their lengths
-  fitting : (rule : ℕ → ℕ → ℕ → Bool) (fit : Bool) → faults m rows rule fit ≡ [] → faults m rows rule true ≡ []
-  fitting rule true e = e
+  pub fitting : (rule : ℕ → ℕ → ℕ → Bool) (fit : Bool) → faults m rows rule fit ≡ [] → (fit ≡ true) × (faults m rows rule true ≡ [])
+  fitting rule true e = (refl, e)
   fitting rule false e = absurd (cons-nil (append-nil (when (ltb 1024 (length rows)) TooManyRows) _ e .1))
 
   module _ (ranks : List ℕ) (ok : isOk (checked m rows ranks) ≡ true) where
     rules : faults m rows (keeps ranks (length rows)) true ≡ []
-    rules = fitting (keeps ranks (length rows)) (eqb (length ranks) (4 * length rows)) (verdict-nil _ _ ok)
+    rules = fitting (keeps ranks (length rows)) (eqb (length ranks) (4 * length rows)) (verdict-nil _ _ ok) .1
 
     -- accepted ranks keep the rule
     accepted-keeps : KeepsAll m rows ranks
@@ -99,7 +99,7 @@ keeps-same g p rank rank′ cl same keep s i b k c =
 pub by-place : (F : ℕ → Type 0) → ((q : ℕ) → q < 4 → F (2 * q + 1)) → (p : ℕ) → p % 2 ≡ 1 → p ≤ 7 → F p
 by-place F h p o b = let e : 2 * (p / 2) + 1 ≡ p = omega arith in subst F e (h (p / 2) (omega arith))
 
-place-of : (q : ℕ) → (2 * q + 1) / 2 ≡ q
+pub place-of : (q : ℕ) → (2 * q + 1) / 2 ≡ q
 place-of q = omega arith
 
 module _ {P : Type 0} (m : Meaning P) (rows : List (Row P)) (wf : WellFormed m rows) where

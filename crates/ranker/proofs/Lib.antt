@@ -4,3 +4,4 @@ pub mod Noting
 pub mod Telling
 pub mod Writing
 pub mod Stretches
+pub mod Rankings

@@ -3,13 +3,13 @@ use mathlib.Core.Path.{_≡_, refl, sym, ap, subst, _∙_}
 use mathlib.Core.Bool.{true, cond}
 use mathlib.Core.Logic.{_⊎_, inl, inr, ⊎-elim}
 use mathlib.Core.List.{List, [], _∷_, _++_}
-use Prim.Native.Nat.{ℕ, suc, _+_, _*_, _<_, _≤_}
+use Prim.Native.Nat.{ℕ, suc, _+_, _*_, _^_, _<_, _≤_}
 use native.Mathlib.Omega.{arith}
 use lib.Dec.{eqb}
 use lib.ListN.{length, getD, set, replicate}
 use Rattle.std.specs.shelf.Lists.{All, Has, countBy}
 use Rattle.std.proofs.shelf.Lists.{length-set, length-push, length-replicate, getD-set-same, getD-set-other, getD-push, getD-append-left, getD-replicate, getD-past}
-use Rattle.std.proofs.shelf.Elements.{all-push, all-append, all-has, has-push, has-push-cases, has-append-left}
+use Rattle.std.proofs.shelf.Elements.{all-push, all-weaker, all-has, has-push, has-push-cases, has-append-left}
 use Rattle.std.proofs.shelf.Sums.{sumBy-set, countBy-le-length}
 use Rattle.std.proofs.shelf.Tests.{cases-eq, cases-lt, eq-eqb, ne-eqb}
 use Rattle.plan.specs.declared.passage.Passage.{Passage}
@@ -33,6 +33,12 @@ noted-none n stamps few e =
       stamped = λ key v q. absurd (omega (arith, zeros key));
       spare = λ s _. omega arith
     }
+
+-- there are never too many
+pub noted-few : (n : ℕ) (before : List Passage) (arcs : List Arc) (stamps : List ℕ) → Noted n before arcs stamps → length arcs ≤ 2 ^ 24
+noted-few n before arcs stamps was =
+    let up : UpTo n before = all-weaker (Proper n) (λ x. x .from ≤ n) (λ x p. omega (arith, p .from)) before (was .proper) in
+    omega (arith, was .spare n up, countBy-le-length (λ v. eqb v (suc n)) stamps, was .keys, was .few)
 
 -- the row of the last passage
 last-from : (s : ℕ) (before : List Passage) (x : Passage) → UpTo s (before ++ x ∷ []) → UpTo s before × (x .from ≤ s)
