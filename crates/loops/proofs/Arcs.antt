@@ -73,13 +73,13 @@ module _ {P : Type 0} (m : Meaning P) (rows : List (Row P)) (rule : ℕ → ℕ 
         × (numbered (outcomeFaults m rows rule s (r .latch)) 0 (outcomesOf m r) ≡ [])
     legal-here s r e =
         let q = append-nil (when (not (m .legal (r .position) (r .choice))) (IllegalMove s)) _
-            (numbered-nil (moveFaults m rows rule) rows (clean m rows rule none .moves) s r e) in
+        (numbered-nil (moveFaults m rows rule) rows (clean m rows rule none .moves) s r e) in
         (not-false _ (when-nil _ _ (q .0)), q .1)
 
     arc-of : (s i : ℕ) (r : Row P) (o : Outcome P) → nth rows s ≡ Some r → nth (outcomesOf m r) i ≡ Some o → Arc s i
     arc-of s i r o e h =
         let t = target (colourOf (r .latch) o) s i (rowAfter m rows (r .latch) o)
-            (numbered-nil (outcomeFaults m rows rule s (r .latch)) (outcomesOf m r) (legal-here s r e .1) i o h) in
+        (numbered-nil (outcomeFaults m rows rule s (r .latch)) (outcomesOf m r) (legal-here s r e .1) i o h) in
         record { row = r; outcome = o; target = t .0; there = e; gives = h; leads = t .1; ruled = t .2 }
 
     pub arc : (s i : ℕ) → s < length rows → i < graphOf m rows .count s → Arc s i

@@ -43,7 +43,7 @@ slack-less n rank rank′ zero s b h up room = absurd (omega arith)
 slack-less n rank rank′ (suc k) s b h up room =
     ⊎-elim
     (λ (e : k ≡ s).
-      omega (arith, ap rank e, ap rank′ e, slack-same n rank rank′ k (λ r c. h r (omega arith))))
+    omega (arith, ap rank e, ap rank′ e, slack-same n rank rank′ k (λ r c. h r (omega arith))))
     (λ (e : k ≡ s → ⊥). omega (arith, h k e, slack-less n rank rank′ k s (omega arith) h up room))
     (cases-eq k s)
 
@@ -58,11 +58,12 @@ module _ (g : Graph) (p : ℕ) (closed : Closed g) (odd : p % 2 ≡ 1) where
     ring-loop : (s : ℕ) → OnRing g rank pick (g .size) s → Loop
     ring-loop s ring =
         ⊎-elim
-        (λ (f : First (λ k. after g pick (suc k) s ≡ s) (ring .length)).
-          (way g pick (suc (f .number)) s,
-          ring-loses g p rank pick closed up (g .size) (f .number) s odd ring (f .holds) (λ j. sooner (f .number) (f .before) j)))
+        (λ (f : First (λ k. after g pick (suc k) s ≡ s) (ring .length)). (
+          way g pick (suc (f .number)) s,
+          ring-loses g p rank pick closed up (g .size) (f .number) s odd ring (f .holds) (λ j. sooner (f .number) (f .before) j),
+        ))
         (λ (none : (k : ℕ) → k < ring .length → after g pick (suc k) s ≡ s → ⊥).
-          absurd (none (ring .length - 1) (omega (arith, ring .some)) (ap (λ k. after g pick k s) (let q : suc (ring .length - 1) ≡ ring .length = omega (arith, ring .some) in q) ∙ ring .back)))
+        absurd (none (ring .length - 1) (omega (arith, ring .some)) (ap (λ k. after g pick k s) (let q : suc (ring .length - 1) ≡ ring .length = omega (arith, ring .some) in q) ∙ ring .back)))
         (some-or-none (λ k. after g pick (suc k) s ≡ s) (λ k. cases-eq (after g pick (suc k) s) s) (ring .length))
       where
         sooner : (n : ℕ) → ((k : ℕ) → k < n → after g pick (suc k) s ≡ s → ⊥) → (j : ℕ) → 0 < j → j < suc n → after g pick j s ≡ s → ⊥
@@ -74,9 +75,9 @@ module _ (g : Graph) (p : ℕ) (closed : Closed g) (odd : p % 2 ≡ 1) where
     high-loop s b high =
         ⊎-elim
         (λ (f : First (λ k. rank (after g pick k s) ≡ 0) (g .size)).
-          absurd (omega (arith, f .below, f .holds, most-steps g p rank pick closed up (f .number) s b (λ j c. positive j (f .before j c)))))
+        absurd (omega (arith, f .below, f .holds, most-steps g p rank pick closed up (f .number) s b (λ j c. positive j (f .before j c)))))
         (λ (none : (k : ℕ) → k < g .size → rank (after g pick k s) ≡ 0 → ⊥).
-          ring-loop (after g pick (g .size) s) (on-ring g p rank pick closed up s b (λ j c. positive j (none j c))))
+        ring-loop (after g pick (g .size) s) (on-ring g p rank pick closed up s b (λ j c. positive j (none j c))))
         (some-or-none (λ k. rank (after g pick k s) ≡ 0) (λ k. cases-eq (rank (after g pick k s)) 0) (g .size))
       where
         positive : (k : ℕ) → (rank (after g pick k s) ≡ 0 → ⊥) → 0 < rank (after g pick k s)
@@ -91,7 +92,7 @@ module _ (g : Graph) (p : ℕ) (closed : Closed g) (odd : p % 2 ≡ 1) where
       ⊎-elim
       (λ (a : p < g .colour s i). inr (λ h. omega (arith, h .0)))
       (λ (a : g .colour s i ≤ p).
-        ⊎-elim (λ (b : rank s < due g p rank s i). inl (a, b)) (λ (b : due g p rank s i ≤ rank s). inr (λ h. omega (arith, h .1))) (cases-lt (rank s) (due g p rank s i)))
+      ⊎-elim (λ (b : rank s < due g p rank s i). inl (a, b)) (λ (b : due g p rank s i ≤ rank s). inr (λ h. omega (arith, h .1))) (cases-lt (rank s) (due g p rank s i)))
       (cases-lt p (g .colour s i))
 
   unmet-at : (rank : ℕ → ℕ) (s : ℕ) → First (Unmet rank s) (g .count s) ⊎ (First (Unmet rank s) (g .count s) → ⊥)
@@ -105,7 +106,7 @@ module _ (g : Graph) (p : ℕ) (closed : Closed g) (odd : p % 2 ≡ 1) where
       ⊎-elim
       (λ (f : First (Unmet rank s) (g .count s)). absurd (none s b f))
       (λ (met : (i : ℕ) → i < g .count s → Unmet rank s i → ⊥).
-        ⊎-elim (λ (h : rank s < due g p rank s i). absurd (met i k (c, h))) (λ (h : due g p rank s i ≤ rank s). h) (cases-lt (rank s) (due g p rank s i)))
+      ⊎-elim (λ (h : rank s < due g p rank s i). absurd (met i k (c, h))) (λ (h : due g p rank s i ≤ rank s). h) (cases-lt (rank s) (due g p rank s i)))
       (some-or-none (Unmet rank s) (unmet rank s) (g .count s))
 
   decide : (fuel : ℕ) (rank pick : ℕ → ℕ) → Lifted g p rank pick → ((s : ℕ) → s < g .size → rank s < g .size) → slack (g .size) rank (g .size) < fuel →
@@ -114,21 +115,21 @@ module _ (g : Graph) (p : ℕ) (closed : Closed g) (odd : p % 2 ≡ 1) where
   decide (suc fuel) rank pick up below room =
       ⊎-elim
       (λ (f : First (λ s. First (Unmet rank s) (g .count s)) (g .size)).
-        let s = f .number in
-        let i = f .holds .number in
-        let rank′ : ℕ → ℕ = put rank s (due g p rank s i) in
-        let pick′ : ℕ → ℕ = put pick s i in
-        let here : rank′ s ≡ due g p rank s i = put-same rank s (due g p rank s i) in
-        let there : (r : ℕ) → (r ≡ s → ⊥) → rank′ r ≡ rank r = put-other rank s (due g p rank s i) in
-        let up′ : Lifted g p rank′ pick′ =
-            lifted-more g p rank rank′ pick pick′ closed up s i (f .below) (f .holds .below) (f .holds .holds .0) (f .holds .holds .1) here there (put-same pick s i) (put-other pick s i) in
-        ⊎-elim
-        (λ (lt : rank′ s < g .size).
-          decide fuel rank′ pick′ up′
-          (λ r b. ⊎-elim (λ (e : r ≡ s). omega (arith, ap rank′ e)) (λ (e : r ≡ s → ⊥). omega (arith, there r e, below r b)) (cases-eq r s))
-          (omega (arith, slack-less (g .size) rank rank′ (g .size) s (f .below) there (omega (arith, f .holds .holds .1)) (below s (f .below)))))
-        (λ (ge : g .size ≤ rank′ s). inr (high-loop rank′ pick′ up′ s (f .below) ge))
-        (cases-lt (rank′ s) (g .size)))
+      let s = f .number in
+      let i = f .holds .number in
+      let rank′ : ℕ → ℕ = put rank s (due g p rank s i) in
+      let pick′ : ℕ → ℕ = put pick s i in
+      let here : rank′ s ≡ due g p rank s i = put-same rank s (due g p rank s i) in
+      let there : (r : ℕ) → (r ≡ s → ⊥) → rank′ r ≡ rank r = put-other rank s (due g p rank s i) in
+      let up′ : Lifted g p rank′ pick′ =
+      lifted-more g p rank rank′ pick pick′ closed up s i (f .below) (f .holds .below) (f .holds .holds .0) (f .holds .holds .1) here there (put-same pick s i) (put-other pick s i) in
+      ⊎-elim
+      (λ (lt : rank′ s < g .size).
+      decide fuel rank′ pick′ up′
+      (λ r b. ⊎-elim (λ (e : r ≡ s). omega (arith, ap rank′ e)) (λ (e : r ≡ s → ⊥). omega (arith, there r e, below r b)) (cases-eq r s))
+      (omega (arith, slack-less (g .size) rank rank′ (g .size) s (f .below) there (omega (arith, f .holds .holds .1)) (below s (f .below)))))
+      (λ (ge : g .size ≤ rank′ s). inr (high-loop rank′ pick′ up′ s (f .below) ge))
+      (cases-lt (rank′ s) (g .size)))
       (λ (none : (s : ℕ) → s < g .size → First (Unmet rank s) (g .count s) → ⊥). inl (rank, (all-met rank none, below)))
       (some-or-none (λ s. First (Unmet rank s) (g .count s)) (unmet-at rank) (g .size))
 

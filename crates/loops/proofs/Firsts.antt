@@ -17,9 +17,9 @@ some-or-none P test (suc n) =
     ⊎-elim
     (λ (f : First P n). inl (record { number = f .number; below = omega (arith, f .below); holds = f .holds; before = f .before }))
     (λ (none : (k : ℕ) → k < n → P k → ⊥).
-      ⊎-elim
-      (λ (h : P n). inl (record { number = n; below = omega arith; holds = h; before = none }))
-      (λ (h : P n → ⊥).
-        inr (λ k b x. ⊎-elim (λ (e : k ≡ n). h (subst P e x)) (λ (e : k ≡ n → ⊥). none k (omega arith) x) (cases-eq k n)))
-      (test n))
+    ⊎-elim
+    (λ (h : P n). inl (record { number = n; below = omega arith; holds = h; before = none }))
+    (λ (h : P n → ⊥).
+    inr (λ k b x. ⊎-elim (λ (e : k ≡ n). h (subst P e x)) (λ (e : k ≡ n → ⊥). none k (omega arith) x) (cases-eq k n)))
+    (test n))
     (some-or-none P test n)

@@ -17,7 +17,7 @@ lifted-none g p rank pick zeros =
       moment = 1;
       past = λ s. omega arith;
       stands = λ s b h. absurd (omega (arith, zeros s b));
-      least = λ other k s b. omega (arith, zeros s b)
+      least = λ other k s b. omega (arith, zeros s b);
     }
 
 module _ (g : Graph) (p : ℕ) (rank rank′ pick pick′ : ℕ → ℕ) (closed : Closed g) (was : Lifted g p rank pick) (s i : ℕ)
@@ -50,10 +50,10 @@ module _ (g : Graph) (p : ℕ) (rank rank′ pick pick′ : ℕ → ℕ) (closed
         small = c;
         most = omega (arith, rises (g .to s i));
         before = λ q.
-          ⊎-elim
-          (λ (e : g .to s i ≡ s). absurd (omega (arith, ap rank e, ap rank′ e)))
-          (λ (e : g .to s i ≡ s → ⊥). omega (arith, since-here s refl, since-there (g .to s i) e, was .past (g .to s i)))
-          (cases-eq (g .to s i) s)
+            ⊎-elim
+            (λ (e : g .to s i ≡ s). absurd (omega (arith, ap rank e, ap rank′ e)))
+            (λ (e : g .to s i ≡ s → ⊥). omega (arith, since-here s refl, since-there (g .to s i) e, was .past (g .to s i)))
+            (cases-eq (g .to s i) s);
       }
 
   stands-there : (r j : ℕ) → (r ≡ s → ⊥) → StandsBy g p rank (was .since) r j → StandsBy g p rank′ since′ r j
@@ -63,13 +63,13 @@ module _ (g : Graph) (p : ℕ) (rank rank′ pick pick′ : ℕ → ℕ) (closed
         small = x .small;
         most = omega (arith, x .most, there r ne, rises (g .to r j));
         before = λ q.
-          ⊎-elim
-          (λ (e : g .to r j ≡ s). absurd (omega (arith, x .most, there r ne, ap rank e, ap rank′ e)))
-          (λ (e : g .to r j ≡ s → ⊥).
+            ⊎-elim
+            (λ (e : g .to r j ≡ s). absurd (omega (arith, x .most, there r ne, ap rank e, ap rank′ e)))
+            (λ (e : g .to r j ≡ s → ⊥).
             let y = there (g .to r j) e in
             let z = there r ne in
             omega (arith, since-there r ne, since-there (g .to r j) e, x .before (omega arith)))
-          (cases-eq (g .to r j) s)
+            (cases-eq (g .to r j) s);
       }
 
   pub lifted-more : Lifted g p rank′ pick′
@@ -79,16 +79,16 @@ module _ (g : Graph) (p : ℕ) (rank rank′ pick pick′ : ℕ → ℕ) (closed
         moment = was .moment + 1;
         past = past;
         stands = λ r h pos.
-          ⊎-elim
-          (λ (e : r ≡ s).
+            ⊎-elim
+            (λ (e : r ≡ s).
             let y : StandsBy g p rank′ since′ s (pick′ s) = rw picked stands-here in
             let G : ℕ → Type 0 = λ x. StandsBy g p rank′ since′ x (pick′ x) in
             subst G (sym e) y)
-          (λ (e : r ≡ s → ⊥). rw (others r e) (stands-there r (pick r) e (was .stands r h (omega (arith, there r e)))))
-          (cases-eq r s);
+            (λ (e : r ≡ s → ⊥). rw (others r e) (stands-there r (pick r) e (was .stands r h (omega (arith, there r e)))))
+            (cases-eq r s);
         least = λ other keeps r h.
-          ⊎-elim
-          (λ (e : r ≡ s). omega (arith, ap rank′ e, ap other e, was .least other keeps (g .to s i) (closed s i b k), keeps s i b k c))
-          (λ (e : r ≡ s → ⊥). omega (arith, there r e, was .least other keeps r h))
-          (cases-eq r s)
+            ⊎-elim
+            (λ (e : r ≡ s). omega (arith, ap rank′ e, ap other e, was .least other keeps (g .to s i) (closed s i b k), keeps s i b k c))
+            (λ (e : r ≡ s → ⊥). omega (arith, there r e, was .least other keeps r h))
+            (cases-eq r s);
       }

@@ -33,9 +33,9 @@ module _ (g : Graph) (p : ℕ) (rank : ℕ → ℕ) (keeps : Keeps g p rank) whe
       let x = ap (λ r. g .colour r (e .outcome)) (l .0) in
       ⊎-elim
       (λ (q : g .colour s (e .outcome) ≡ p).
-        omega (arith, down es (g .to s (e .outcome)) t (l .3) (omega arith), falls-by s (e .outcome) (l .1) (l .2) q))
+      omega (arith, down es (g .to s (e .outcome)) t (l .3) (omega arith), falls-by s (e .outcome) (l .1) (l .2) q))
       (λ (q : g .colour s (e .outcome) ≡ p → ⊥).
-        omega (arith, down-by es (g .to s (e .outcome)) t (l .3) (omega (arith, x)) o, falls s (e .outcome) (l .1) (l .2) (omega (arith, x))))
+      omega (arith, down-by es (g .to s (e .outcome)) t (l .3) (omega (arith, x)) o, falls s (e .outcome) (l .1) (l .2) (omega (arith, x))))
       (cases-eq (g .colour s (e .outcome)) p)
 
   pub none-losing : NoLoop g p

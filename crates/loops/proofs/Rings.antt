@@ -37,7 +37,7 @@ module _ (n : ℕ) (f : ℕ → ℕ) (apart : (i : ℕ) → i < suc n → f i �
   without-below below i b =
       ⊎-elim
       (λ (e : f i ≡ n).
-        omega (arith, without-yes n f i e, below (suc n) (omega arith), apart i (omega arith)))
+      omega (arith, without-yes n f i e, below (suc n) (omega arith), apart i (omega arith)))
       (λ (e : f i ≡ n → ⊥). omega (arith, without-no n f i e, below i (omega arith)))
       (cases-eq (f i) n)
 
@@ -45,15 +45,15 @@ module _ (n : ℕ) (f : ℕ → ℕ) (apart : (i : ℕ) → i < suc n → f i �
   without-same i j a b e =
       ⊎-elim
       (λ (x : f i ≡ n).
-        ⊎-elim
-        (λ (y : f j ≡ n). x ∙ sym y)
-        (λ (y : f j ≡ n → ⊥). absurd (apart j (omega arith) (sym (without-no n f j y) ∙ sym e ∙ without-yes n f i x)))
-        (cases-eq (f j) n))
+      ⊎-elim
+      (λ (y : f j ≡ n). x ∙ sym y)
+      (λ (y : f j ≡ n → ⊥). absurd (apart j (omega arith) (sym (without-no n f j y) ∙ sym e ∙ without-yes n f i x)))
+      (cases-eq (f j) n))
       (λ (x : f i ≡ n → ⊥).
-        ⊎-elim
-        (λ (y : f j ≡ n). absurd (apart i (omega arith) (sym (without-no n f i x) ∙ e ∙ without-yes n f j y)))
-        (λ (y : f j ≡ n → ⊥). sym (without-no n f i x) ∙ e ∙ without-no n f j y)
-        (cases-eq (f j) n))
+      ⊎-elim
+      (λ (y : f j ≡ n). absurd (apart i (omega arith) (sym (without-no n f i x) ∙ e ∙ without-yes n f j y)))
+      (λ (y : f j ≡ n → ⊥). sym (without-no n f i x) ∙ e ∙ without-no n f j y)
+      (cases-eq (f j) n))
       (cases-eq (f i) n)
 
 twice : (n : ℕ) (f : ℕ → ℕ) → ((i : ℕ) → i ≤ n → f i < n) → Twice n f
@@ -63,8 +63,8 @@ twice (suc n) f below =
     ⊎-elim
     (λ (h : First (λ i. f i ≡ f (suc n)) (suc n)). (h .number, suc n, h .below, omega arith, h .holds))
     (λ (apart : (i : ℕ) → i < suc n → f i ≡ f (suc n) → ⊥).
-      let t : Twice n (without n f) = twice n (without n f) (without-below n f apart below) in
-      (t .0, t .1, t .2, omega (arith, t .3), without-same n f apart (t .0) (t .1) (omega (arith, t .2, t .3)) (t .3) (t .4)))
+    let t : Twice n (without n f) = twice n (without n f) (without-below n f apart below) in
+    (t .0, t .1, t .2, omega (arith, t .3), without-same n f apart (t .0) (t .1) (omega (arith, t .2, t .3)) (t .3) (t .4)))
     (some-or-none (λ i. f i ≡ f (suc n)) (λ i. cases-eq (f i) (f (suc n))) (suc n))
 
 -- one step after another
@@ -95,19 +95,20 @@ module _ (g : Graph) (pick : ℕ → ℕ) where
 
   simple : (k s : ℕ) → ((i j : ℕ) → i < j → j < k → after g pick i s ≡ after g pick j s → ⊥) → Simple (way g pick k s)
   simple zero s h = tt
-  simple (suc k) s h =
-      (absent k (g .to s (pick s)) s (λ j b e. h 0 (suc j) (omega arith) (omega arith) (sym e)),
-      simple k (g .to s (pick s)) (λ i j a b. h (suc i) (suc j) (omega arith) (omega arith)))
+  simple (suc k) s h = (
+    absent k (g .to s (pick s)) s (λ j b e. h 0 (suc j) (omega arith) (omega arith) (sym e)),
+    simple k (g .to s (pick s)) (λ i j a b. h (suc i) (suc j) (omega arith) (omega arith)),
+  )
 
   -- a way that comes back to its start for the first time at its end has no row twice
   pub first-back : (k s : ℕ) → after g pick k s ≡ s → ((j : ℕ) → 0 < j → j < k → after g pick j s ≡ s → ⊥) → Simple (way g pick k s)
   first-back k s back first =
       simple k s (λ i j a b e.
-        first (i + (k - j)) (omega arith) (omega arith)
-        (after-add i (k - j) (i + (k - j)) s refl
-        ∙ ap (after g pick (k - j)) e
-        ∙ sym (after-add j (k - j) k s (omega arith))
-        ∙ back))
+      first (i + (k - j)) (omega arith) (omega arith)
+      (after-add i (k - j) (i + (k - j)) s refl
+      ∙ ap (after g pick (k - j)) e
+      ∙ sym (after-add j (k - j) k s (omega arith))
+      ∙ back))
 
 -- picked outcomes lead on from row to row
 
@@ -150,10 +151,10 @@ module _ (g : Graph) (p : ℕ) (rank pick : ℕ → ℕ) (closed : Closed g) (up
         ⊎-elim
         (λ (d : k < g .size). h k d)
         (λ (d : g .size ≤ k).
-          let t : Twice (g .size) (λ k. after g pick k s) = twin in
-          let q = came (t .0) (t .1) k (t .2) (t .4) (omega (arith, t .3)) in
-          let R : ℕ → Type 0 = λ x. 0 < rank x in
-          subst R (sym q) (always-by n (k - (t .1 - t .0)) (omega (arith, t .2, t .3))))
+        let t : Twice (g .size) (λ k. after g pick k s) = twin in
+        let q = came (t .0) (t .1) k (t .2) (t .4) (omega (arith, t .3)) in
+        let R : ℕ → Type 0 = λ x. 0 < rank x in
+        subst R (sym q) (always-by n (k - (t .1 - t .0)) (omega (arith, t .2, t .3))))
         (cases-lt k (g .size))
 
     pub on-ring : OnRing g rank pick (g .size) (after g pick (g .size) s)
@@ -171,9 +172,9 @@ module _ (g : Graph) (p : ℕ) (rank pick : ℕ → ℕ) (closed : Closed g) (up
           some = omega (arith, t .2);
           few = omega (arith, t .3);
           back =
-            sym (after-add g pick n d (n + d) s refl)
-            ∙ came (t .0) (t .1) (n + d) (t .2) (t .4) (omega (arith, t .3))
-            ∙ ap (λ k. after g pick k s) (let q : n + d - (t .1 - t .0) ≡ n = omega (arith, t .2) in q)
+              sym (after-add g pick n d (n + d) s refl)
+              ∙ came (t .0) (t .1) (n + d) (t .2) (t .4) (omega (arith, t .3))
+              ∙ ap (λ k. after g pick k s) (let q : n + d - (t .1 - t .0) ≡ n = omega (arith, t .2) in q);
         }
 
   -- along other colours than p the rank does not fall, and if it stays, the moment lies before
@@ -210,17 +211,20 @@ module _ (g : Graph) (p : ℕ) (rank pick : ℕ → ℕ) (closed : Closed g) (up
       ⊎-elim
       (λ (e : g .colour s (pick s) ≡ p). inl (omega arith))
       (λ (ne : g .colour s (pick s) ≡ p → ⊥).
-        ⊎-elim
-        (λ (e : largest g (way g pick (suc k) t) ≡ p). inl (omega arith))
-        (λ (y : Later t (after g pick (suc k) t)). inr (later-trans s t _ (step-later s b (h 0 (omega arith)) ne) y))
-        (top-or-later k t (goes-on s b (h 0 (omega arith))) (λ j c. h (suc j) (omega arith))))
+      ⊎-elim
+      (λ (e : largest g (way g pick (suc k) t) ≡ p). inl (omega arith))
+      (λ (y : Later t (after g pick (suc k) t)). inr (later-trans s t _ (step-later s b (h 0 (omega arith)) ne) y))
+      (top-or-later k t (goes-on s b (h 0 (omega arith))) (λ j c. h (suc j) (omega arith))))
       (cases-eq (g .colour s (pick s)) p)
 
   leads-way : (k s : ℕ) → s < g .size → ((j : ℕ) → j < k → 0 < rank (after g pick j s)) → Leads g s (way g pick k s) (after g pick k s)
   leads-way zero s b h = refl
-  leads-way (suc k) s b h =
-      (refl, b, up .stands s b (h 0 (omega arith)) .there,
-      leads-way k (g .to s (pick s)) (goes-on s b (h 0 (omega arith))) (λ j c. h (suc j) (omega arith)))
+  leads-way (suc k) s b h = (
+    refl,
+    b,
+    up .stands s b (h 0 (omega arith)) .there,
+    leads-way k (g .to s (pick s)) (goes-on s b (h 0 (omega arith))) (λ j c. h (suc j) (omega arith)),
+  )
 
   -- a ring is a losing loop
   pub ring-loses : (n k s : ℕ) → p % 2 ≡ 1 → OnRing g rank pick n s → after g pick (suc k) s ≡ s →
@@ -234,9 +238,9 @@ module _ (g : Graph) (p : ℕ) (rank pick : ℕ → ℕ) (closed : Closed g) (up
         round = subst F back (leads-way (suc k) s (ring .within 0) h);
         simple = first-back g pick (suc k) s back first;
         top =
-          ⊎-elim
-          (λ (e : largest g (way g pick (suc k) s) ≡ p). e)
-          (λ (l : Later s (after g pick (suc k) s)). absurd (omega (arith, l .1 (sym (ap rank back)), ap (up .since) back)))
-          (top-or-later k s (ring .within 0) h);
-        odd = odd
+            ⊎-elim
+            (λ (e : largest g (way g pick (suc k) s) ≡ p). e)
+            (λ (l : Later s (after g pick (suc k) s)). absurd (omega (arith, l .1 (sym (ap rank back)), ap (up .since) back)))
+            (top-or-later k s (ring .within 0) h);
+        odd = odd;
       }

@@ -76,14 +76,14 @@ module _ {P : Type 0} (m : Meaning P) (rows : List (Row P)) where
     accepted-keeps p o h s i b k c =
         let g = graphOf m rows in
         let f = keeps-falls ranks (length rows) p (g .colour s i) s (g .to s i)
-            (keeps-odd ranks (length rows) (g .colour s i) s (g .to s i) p (ruled m rows (keeps ranks (length rows)) rules s i b k) o h) in
+        (keeps-odd ranks (length rows) (g .colour s i) s (g .to s i) p (ruled m rows (keeps ranks (length rows)) rules s i b k) o h) in
         ⊎-elim
         (λ (e : g .colour s i ≡ p).
-          let q : cond {A = ℕ} (eqb (g .colour s i) p) 1 0 ≡ 1 = rw (eq-eqb (g .colour s i) p e) in
-          omega (arith, f .1 e))
+        let q : cond {A = ℕ} (eqb (g .colour s i) p) 1 0 ≡ 1 = rw (eq-eqb (g .colour s i) p e) in
+        omega (arith, f .1 e))
         (λ (e : g .colour s i ≡ p → ⊥).
-          let q : cond {A = ℕ} (eqb (g .colour s i) p) 1 0 ≡ 0 = rw (ne-eqb (g .colour s i) p e) in
-          omega (arith, f .0 c))
+        let q : cond {A = ℕ} (eqb (g .colour s i) p) 1 0 ≡ 0 = rw (ne-eqb (g .colour s i) p e) in
+        omega (arith, f .0 c))
         (cases-eq (g .colour s i) p)
 
     -- so an accepted table has no losing loop
@@ -112,18 +112,21 @@ module _ {P : Type 0} (m : Meaning P) (rows : List (Row P)) (wf : WellFormed m r
   all-or-loop (suc k) =
       ⊎-elim
       (λ (f : (rank : ℕ → ℕ → ℕ) × ((q : ℕ) → q < k → Keeps g (2 * q + 1) (rank q))).
-        ⊎-elim
-        (λ (r : (rank : ℕ → ℕ) × Keeps g (2 * k + 1) rank).
-          let rank : ℕ → ℕ → ℕ = λ q. cond (eqb q k) (r .0) (f .0 q) in
-          inl (rank, λ q b.
+      ⊎-elim
+      (λ (r : (rank : ℕ → ℕ) × Keeps g (2 * k + 1) rank).
+      let rank : ℕ → ℕ → ℕ = λ q. cond (eqb q k) (r .0) (f .0 q) in
+      inl (
+        rank,
+        λ q b.
             ⊎-elim
             (λ (e : q ≡ k).
-              let F : ℕ → Type 0 = λ x. Keeps g (2 * x + 1) (rank q) in
-              subst F (sym e) (rw (cond-true (eqb q k) (r .0) (f .0 q) (eq-eqb q k e)) (r .1)))
+            let F : ℕ → Type 0 = λ x. Keeps g (2 * x + 1) (rank q) in
+            subst F (sym e) (rw (cond-true (eqb q k) (r .0) (f .0 q) (eq-eqb q k e)) (r .1)))
             (λ (e : q ≡ k → ⊥). rw (cond-false (eqb q k) (r .0) (f .0 q) (ne-eqb q k e)) (f .1 q (omega arith)))
-            (cases-eq q k)))
-        (λ (l : (loop : List Pair) × Losing g (2 * k + 1) loop). inr (2 * k + 1, l .0, l .1))
-        (ranks-or-loop g (2 * k + 1) (closed m rows anyRound wf) (omega arith)))
+            (cases-eq q k),
+      ))
+      (λ (l : (loop : List Pair) × Losing g (2 * k + 1) loop). inr (2 * k + 1, l .0, l .1))
+      (ranks-or-loop g (2 * k + 1) (closed m rows anyRound wf) (omega arith)))
       inr
       (all-or-loop k)
 
@@ -150,7 +153,7 @@ module _ {P : Type 0} (m : Meaning P) (rows : List (Row P)) (wf : WellFormed m r
   accepted-or-loop =
       ⊎-elim
       (λ (f : (rank : ℕ → ℕ → ℕ) × ((q : ℕ) → q < 4 → Keeps g (2 * q + 1) (rank q))).
-        inl (listed (f .0), rw (kept-checked m rows anyRound wf (listed (f .0)) (length-map-counting _ 0 (4 * length rows)) (listed-keeps (f .0) (f .1)))))
+      inl (listed (f .0), rw (kept-checked m rows anyRound wf (listed (f .0)) (length-map-counting _ 0 (4 * length rows)) (listed-keeps (f .0) (f .1)))))
       inr
       (all-or-loop 4)
 

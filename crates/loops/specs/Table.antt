@@ -34,7 +34,7 @@ module _ {P : Type 0} (m : Meaning P) (rows : List (Row P)) where
     size = length rows;
     count = λ s. told (λ r. length (outcomesOf m r)) (nth rows s);
     colour = λ s i. told (λ r. told (λ o. colourOf (r .latch) o) (nth (outcomesOf m r) i)) (nth rows s);
-    to = λ s i. told (λ r. told (λ o. valueOr (rowAfter m rows (r .latch) o) 0) (nth (outcomesOf m r) i)) (nth rows s)
+    to = λ s i. told (λ r. told (λ o. valueOr (rowAfter m rows (r .latch) o) 0) (nth (outcomesOf m r) i)) (nth rows s);
   }
 
   -- nothing is wrong with the table, whatever its ranks are

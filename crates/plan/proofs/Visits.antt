@@ -63,8 +63,8 @@ module _ {V : Type 0} (seen : V → ℕ → List Passage → Type 0) (n s : ℕ)
         whole = append-assoc (x .behind) more rest ∙ x .whole;
         rows = all-append (λ y. y .from ≤ s) (x .behind) more (x .rows) up;
         shown = λ before h b.
-          rw (← append-assoc before (x .behind) more)
-          (go (before ++ x .behind) (x .shown before h b) (all-append (λ y. y .from ≤ s) before (x .behind) b (x .rows)))
+            rw (← append-assoc before (x .behind) more)
+            (go (before ++ x .behind) (x .shown before h b) (all-append (λ y. y .from ≤ s) before (x .behind) b (x .rows)));
       }
 
   pub partly-ready : (is : V) (rest : List Passage) → Partly seen n s all rest was is → Ready seen n s was → Ready seen n s is
@@ -108,7 +108,7 @@ module _ {P V : Type 0} (m : Meaning P) (rows : List (Row P)) (rule : V → ℕ 
         faults = rw e;
         count = omega (arith, ap length e);
         same = refl;
-        part = rw e (partly-none seen (length rows) s (passagesAt m rows s r) was)
+        part = rw e (partly-none seen (length rows) s (passagesAt m rows s r) was);
       }
 
   pub through-more : {R : Type 0} (x y : R) (is is′ : V) (i : ℕ) (o : Outcome P) (rest rest′ : List (Outcome P)) → rest ≡ o ∷ rest′ →
@@ -123,9 +123,9 @@ module _ {P V : Type 0} (m : Meaning P) (rows : List (Row P)) (rule : V → ℕ 
         count = omega (arith, t .count, ap length e);
         same = kept ∙ t .same;
         part =
-          rw add-one
-          (partly-more seen (length rows) s (passagesAt m rows s r) was is is′ (passageAt m rows s (r .latch) i o)
-          (numbered (passageAt m rows s (r .latch)) (suc i) rest′) (at-upto m rows s (r .latch) i o) go (rw e at (t .part)))
+            rw add-one
+            (partly-more seen (length rows) s (passagesAt m rows s r) was is is′ (passageAt m rows s (r .latch) i o)
+            (numbered (passageAt m rows s (r .latch)) (suc i) rest′) (at-upto m rows s (r .latch) i o) go (rw e at (t .part)));
       }
 
 -- how far the rows have been tested and shown, from row s on
@@ -158,18 +158,18 @@ module _ {P V : Type 0} (m : Meaning P) (rows : List (Row P)) (rule : V → ℕ 
           same = kept ∙ t .same;
           behind = t .behind ++ passagesAt m rows s r;
           whole =
-            append-assoc (t .behind) (passagesAt m rows s r) _
-            ∙ ap (λ (more : List Passage). t .behind ++ more) (sym (split (passagesAt m rows) rows s r b read))
-            ∙ t .whole;
+              append-assoc (t .behind) (passagesAt m rows s r) _
+              ∙ ap (λ (more : List Passage). t .behind ++ more) (sym (split (passagesAt m rows) rows s r b read))
+              ∙ t .whole;
           upto =
-            all-weaker (λ z. z .from ≤ s) (λ z. z .from ≤ s + 1) (λ z h. omega arith) (t .behind ++ passagesAt m rows s r)
-            (all-append (λ z. z .from ≤ s) (t .behind) (passagesAt m rows s r) (t .upto) (row-upto m rows s r));
-          shown = go (t .behind) (t .shown) (t .upto)
+              all-weaker (λ z. z .from ≤ s) (λ z. z .from ≤ s + 1) (λ z h. omega arith) (t .behind ++ passagesAt m rows s r)
+              (all-append (λ z. z .from ≤ s) (t .behind) (passagesAt m rows s r) (t .upto) (row-upto m rows s r));
+          shown = go (t .behind) (t .shown) (t .upto);
         }
 
   pub past-all : (is : V) (s : ℕ) → length rows ≤ s → Past is s → (numbered (Wrong was) 0 rows ≡ []) × seen is (length rows) (passagesIn m rows)
   past-all is s b t =
       let e : t .behind ≡ passagesIn m rows =
-          sym (append-nil (t .behind)) ∙ ap (λ (more : List Passage). t .behind ++ more) (sym (at-drop-all (numbered (passagesAt m rows) s) rows s b)) ∙ t .whole in
+      sym (append-nil (t .behind)) ∙ ap (λ (more : List Passage). t .behind ++ more) (sym (at-drop-all (numbered (passagesAt m rows) s) rows s b)) ∙ t .whole in
       let F : List Passage → Type 0 = λ all. seen is (length rows) all in
       (turn-end (Wrong was) rows s b (t .faults), subst F e (t .shown))

@@ -22,8 +22,8 @@ use Rattle.ranker.specs.Notes.{passageOf, keyOf, Proper, Stands, Keyed, Noted}
 pub noted-none : (n : ℕ) (stamps : List ℕ) → n ≤ 1024 → stamps ≡ replicate 8192 0 → Noted n [] [] stamps
 noted-none n stamps few e =
     let zeros : (key : ℕ) → getD stamps key 0 ≡ 0 = λ key.
-        ap (λ (xs : List ℕ). getD xs key 0) e
-        ∙ ⊎-elim (λ (h : key < 8192). getD-replicate 8192 key 0 0 h) (λ (h : 8192 ≤ key). getD-past (replicate 8192 0) key 0 (let q : length (replicate {A = ℕ} 8192 0) ≡ 8192 = length-replicate {A = ℕ} 8192 0 in omega arith)) (cases-lt key 8192) in
+    ap (λ (xs : List ℕ). getD xs key 0) e
+    ∙ ⊎-elim (λ (h : key < 8192). getD-replicate 8192 key 0 0 h) (λ (h : 8192 ≤ key). getD-past (replicate 8192 0) key 0 (let q : length (replicate {A = ℕ} 8192 0) ≡ 8192 = length-replicate {A = ℕ} 8192 0 in omega arith)) (cases-lt key 8192) in
     record {
       few = few;
       keys = ap length e ∙ length-replicate {A = ℕ} 8192 0;
@@ -31,7 +31,7 @@ noted-none n stamps few e =
       true = λ k b. absurd (omega arith);
       whole = λ x h. absurd (omega (arith, h .1));
       stamped = λ key v q. absurd (omega (arith, zeros key));
-      spare = λ s _. omega arith
+      spare = λ s _. omega arith;
     }
 
 -- there are never too many
@@ -70,12 +70,12 @@ module _ (n : ℕ) (before : List Passage) (arcs : List Arc) (stamps : List ℕ)
           proper = proper;
           true = λ k b. has-append-left before (x ∷ []) (passageOf (arcAt arcs k)) (was .true k b);
           whole = λ y h.
-            ⊎-elim
-            (λ (o : Has before y). was .whole y o)
-            (λ (e : x ≡ y). let F : Passage → Type 0 = λ z. (k : ℕ) × Stands arcs z k in subst F e stands)
-            (has-push-cases before x y h);
+              ⊎-elim
+              (λ (o : Has before y). was .whole y o)
+              (λ (e : x ≡ y). let F : Passage → Type 0 = λ z. (k : ℕ) × Stands arcs z k in subst F e stands)
+              (has-push-cases before x y h);
           stamped = was .stamped;
-          spare = λ s up. was .spare s (last-from s before x up .0)
+          spare = λ s up. was .spare s (last-from s before x up .0);
         }
 
   -- one whose arc is not
@@ -117,41 +117,41 @@ module _ (n : ℕ) (before : List Passage) (arcs : List Arc) (stamps : List ℕ)
           keys = length-set stamps (keyOf (x .to) (x .colour)) (suc (x .from)) ∙ was .keys;
           proper = proper;
           true = λ k b.
-            ⊎-elim
-            (λ (h : k < length arcs). rw (old k h) (has-append-left before (x ∷ []) (passageOf (arcAt arcs k)) (was .true k h)))
-            (λ (h : length arcs ≤ k).
+              ⊎-elim
+              (λ (h : k < length arcs). rw (old k h) (has-append-left before (x ∷ []) (passageOf (arcAt arcs k)) (was .true k h)))
+              (λ (h : length arcs ≤ k).
               let e : length arcs ≡ k = omega (arith, length-push arcs arc) in
               let F : ℕ → Type 0 = λ j. Has (before ++ x ∷ []) (passageOf (arcAt arcs′ j)) in
               subst F e (rw added (has-push before x)))
-            (cases-lt k (length arcs));
+              (cases-lt k (length arcs));
           whole = λ y h.
-            ⊎-elim
-            (λ (o : Has before y).
+              ⊎-elim
+              (λ (o : Has before y).
               let w = was .whole y o in
               let e = old (w .0) (w .1 .there) in
               (w .0, record { there = omega (arith, length-push arcs arc, w .1 .there); row = ap (λ (a : Arc). a .row) e ∙ w .1 .row; colour = ap (λ (a : Arc). a .colour) e ∙ w .1 .colour; to = ap (λ (a : Arc). a .to) e ∙ w .1 .to }))
-            (λ (e : x ≡ y).
+              (λ (e : x ≡ y).
               let F : Passage → Type 0 = λ z. (k : ℕ) × Stands arcs′ z k in
               subst F e
               (length arcs, record { there = omega (arith, length-push arcs arc); row = ap (λ (a : Arc). a .row) added; colour = ap (λ (a : Arc). a .colour) added; to = ap (λ (a : Arc). a .to) added }))
-            (has-push-cases before x y h);
+              (has-push-cases before x y h);
           stamped = λ key v q.
-            ⊎-elim
-            (λ (e : key ≡ keyOf (x .to) (x .colour)).
+              ⊎-elim
+              (λ (e : key ≡ keyOf (x .to) (x .colour)).
               let v-is : suc v ≡ suc (x .from) = sym q ∙ ap (λ (j : ℕ). getD stamps′ j 0) e ∙ getD-set-same stamps (keyOf (x .to) (x .colour)) (suc (x .from)) 0 key-below in
               (length arcs, record { there = omega (arith, length-push arcs arc); row = omega (arith, ap (λ (a : Arc). a .row) added); keyed = omega (arith, ap (λ (a : Arc). a .to) added, ap (λ (a : Arc). a .colour) added) }))
-            (λ (e : key ≡ keyOf (x .to) (x .colour) → ⊥).
+              (λ (e : key ≡ keyOf (x .to) (x .colour) → ⊥).
               let w = was .stamped key v (sym (getD-set-other stamps (keyOf (x .to) (x .colour)) key (suc (x .from)) 0 e) ∙ q) in
               let o = old (w .0) (w .1 .there) in
               (w .0, record { there = omega (arith, length-push arcs arc, w .1 .there); row = ap (λ (a : Arc). a .row) o ∙ w .1 .row; keyed = omega (arith, ap (λ (a : Arc). a .to) o, ap (λ (a : Arc). a .colour) o, w .1 .keyed) }))
-            (cases-eq key (keyOf (x .to) (x .colour)));
+              (cases-eq key (keyOf (x .to) (x .colour)));
           spare = λ s up.
-            let l = last-from s before x up in
-            ⊎-elim
-            (λ (e : s ≡ x .from).
+              let l = last-from s before x up in
+              ⊎-elim
+              (λ (e : s ≡ x .from).
               let F : ℕ → Type 0 = λ t. length arcs′ ≤ 8192 * t + countBy (λ v. eqb v (suc t)) stamps′ in
               subst F (sym e) (omega (arith, counted, length-push arcs arc, was .spare (x .from) (next .last))))
-            (λ (e : s ≡ x .from → ⊥).
+              (λ (e : s ≡ x .from → ⊥).
               omega (arith, length-push arcs arc, counted, was .spare (x .from) (next .last), countBy-le-length (λ v. eqb v (suc (x .from))) stamps′, length-set stamps (keyOf (x .to) (x .colour)) (suc (x .from)), was .keys, l .1))
-            (cases-eq s (x .from))
+              (cases-eq s (x .from));
         }

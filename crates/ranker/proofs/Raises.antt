@@ -44,7 +44,7 @@ pub lifts-none : (arcs : List Arc) (p : ℕ) (ranks by : List ℕ) → ((s : ℕ
 lifts-none arcs p ranks by zeros =
     record {
       own = λ s b h. absurd (omega (arith, zeros s b));
-      lifted = λ g tells. lifted-none g p (rankIn ranks) (pickIn arcs by) (λ s b. zeros s (omega (arith, tells .size)))
+      lifted = λ g tells. lifted-none g p (rankIn ranks) (pickIn arcs by) (λ s b. zeros s (omega (arith, tells .size)));
     }
 
 -- and once every arc is met they are the smallest that keep the rule
@@ -54,7 +54,7 @@ met-smallest g p arcs ranks by tells up below met =
     record {
       keeps = met-keeps g p arcs ranks tells met;
       below = λ s b. omega (arith, tells .size, below s (omega (arith, tells .size)));
-      least = up .lifted g tells .least
+      least = up .lifted g tells .least;
     }
 
 module _ (arcs : List Arc) (p : ℕ) (ranks by : List ℕ) (k v : ℕ) (told : Told (length ranks) arcs) (there : k < length arcs) (room : length ranks ≤ length by)
@@ -84,19 +84,19 @@ module _ (arcs : List Arc) (p : ℕ) (ranks by : List ℕ) (k v : ℕ) (told : T
   lifts-more was =
       record {
         own = λ s b h.
-          ⊎-elim
-          (λ (e : s ≡ row).
+            ⊎-elim
+            (λ (e : s ≡ row).
             let q : getD (set by row k) s 0 ≡ k = ap (λ (x : ℕ). getD (set by row k) x 0) e ∙ getD-set-same by row k 0 (omega (arith, within)) in
             (omega arith, ap (λ (j : ℕ). arcAt arcs j .row) q ∙ sym e))
-          (λ (e : s ≡ row → ⊥).
+            (λ (e : s ≡ row → ⊥).
             let q : getD (set by row k) s 0 ≡ getD by s 0 = getD-set-other by row s k 0 e in
             let o = was .own s (omega (arith, length-set ranks row v)) (omega (arith, other s e)) in
             (omega (arith, o .0), ap (λ (j : ℕ). arcAt arcs j .row) q ∙ o .1))
-          (cases-eq s row);
+            (cases-eq s row);
         lifted = λ g tells.
-          let F : ℕ → Type 0 = λ n. Tells n arcs g in
-          let tells′ : Tells (length ranks) arcs g = subst F (length-set ranks row v) tells in
-          lifted-here g tells′ (was .lifted g tells′)
+            let F : ℕ → Type 0 = λ n. Tells n arcs g in
+            let tells′ : Tells (length ranks) arcs g = subst F (length-set ranks row v) tells in
+            lifted-here g tells′ (was .lifted g tells′);
       }
 
   -- it leaves less slack

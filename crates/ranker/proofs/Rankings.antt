@@ -68,8 +68,8 @@ module _ {P : Type 0} (m : Meaning P) (rows : List (Row P)) (ranks : List ℕ) (
       smallest =
           by-place (λ p. Smallest (graphOf m rows) p (rankOf ranks′ (length rows) p))
           (λ q b.
-            let F : ℕ → Type 0 = λ k. Smallest (graphOf m rows) (2 * q + 1) (λ s. getD ranks′ (k * length rows + s) 0) in
-            subst F (sym (place-of q)) (d .0 q b))
+          let F : ℕ → Type 0 = λ k. Smallest (graphOf m rows) (2 * q + 1) (λ s. getD ranks′ (k * length rows + s) 0) in
+          subst F (sym (place-of q)) (d .0 q b))
 
       keeps : KeepsAll m rows ranks′
       keeps p o h = smallest p o h .keeps
@@ -84,7 +84,7 @@ module _ {P : Type 0} (m : Meaning P) (rows : List (Row P)) (ranks : List ℕ) (
             checks = kept-checked m rows anyRound well ranks′ (long ∙ four) keeps ∙ ap Ok (sym e);
             smallest = smallest;
             long = long;
-            rest = d .1
+            rest = d .1;
           }))
 
       pub filled-exact : Decides (isOk {E = Fault} (Ok a)) (Sound m rows ranks losing)

@@ -39,7 +39,7 @@ smallest-same g p rank rank′ closed same x =
     record {
       keeps = keeps-same g p rank rank′ closed same (x .keeps);
       below = λ s b. omega (arith, same s b, x .below s b);
-      least = λ other k s b. omega (arith, same s b, x .least other k s b)
+      least = λ other k s b. omega (arith, same s b, x .least other k s b);
     }
 
 -- one more stretch
@@ -49,7 +49,7 @@ pub drafted-more : (g : Graph) (q n k : ℕ) (xs ys : List ℕ) → Closed g →
 drafted-more g q n k xs ys closed size le long old new =
     below-more (λ j. Smallest g (2 * j + 1) (λ s. getD (putMid (q * n) k xs ys) (j * n + s) 0)) q
     (λ j b.
-      smallest-same g (2 * j + 1) _ _ closed (λ s h. put-before (q * n) k xs ys (j * n + s) (omega (arith, mul-le-mul-right n b)) le) (old j b))
+    smallest-same g (2 * j + 1) _ _ closed (λ s h. put-before (q * n) k xs ys (j * n + s) (omega (arith, mul-le-mul-right n b)) le) (old j b))
     (smallest-same g (2 * q + 1) _ _ closed (λ s h. put-in (q * n) k xs ys s (omega arith) le) new)
 
 -- no losing loop has a smaller colour than 2 q + 1, if the first q odd colours have ranks

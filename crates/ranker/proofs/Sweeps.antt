@@ -23,10 +23,10 @@ module _ (arcs : List Arc) (p : ℕ) (was : List ℕ) where
       SweptFrom arcs p was ranks k last → SweptFrom arcs p was ranks′ (k - 1) last
   from-met ranks ranks′ k None pos same met x =
       let all : (j : ℕ) → k - 1 ≤ j → j < length arcs → Met p ranks (arcAt arcs j) = λ j a b.
-          ⊎-elim
-          (λ (e : j ≡ k - 1). let F : ℕ → Type 0 = λ i. Met p ranks (arcAt arcs i) in subst F (sym e) met)
-          (λ (e : j ≡ k - 1 → ⊥). x .1 j (omega arith) b)
-          (cases-eq j (k - 1)) in
+      ⊎-elim
+      (λ (e : j ≡ k - 1). let F : ℕ → Type 0 = λ i. Met p ranks (arcAt arcs i) in subst F (sym e) met)
+      (λ (e : j ≡ k - 1 → ⊥). x .1 j (omega arith) b)
+      (cases-eq j (k - 1)) in
       let F : List ℕ → Type 0 = λ r. (j : ℕ) → k - 1 ≤ j → j < length arcs → Met p r (arcAt arcs j) in
       (same ∙ x .0, subst F (sym same) all)
   from-met ranks ranks′ k (Some s) pos same met x = rw same x

@@ -46,8 +46,8 @@ module _ {X Y : Type 0} (f : ℕ → X → List Y) where
       ⊎-elim
       (λ (a : Has (f n x) y). (0, x, refl, (let e : n + 0 ≡ n = omega arith in rw e a)))
       (λ (a : Has (numbered f (suc n) xs) y).
-        let r = numbered-has (suc n) xs y a in
-        (suc (r .0), r .1, r .2, (let e : n + suc (r .0) ≡ suc n + r .0 = omega arith in rw e (r .3))))
+      let r = numbered-has (suc n) xs y a in
+      (suc (r .0), r .1, r .2, (let e : n + suc (r .0) ≡ suc n + r .0 = omega arith in rw e (r .3))))
       (has-append-cases (f n x) (numbered f (suc n) xs) y h)
 
   has-numbered : (n : ℕ) (xs : List X) (y : Y) (k j : ℕ) (x : X) → n + k ≡ j → nth xs k ≡ Some x → Has (f j x) y → Has (numbered f n xs) y
@@ -81,7 +81,7 @@ module _ {P : Type 0} (m : Meaning P) (rows : List (Row P)) where
         from = nth-within rows s r here;
         outcome = rw (count-at m rows anyRound s r here) (nth-within (outcomesOf m r) i o gives);
         colour = rw (here, gives);
-        to = rw (here, gives, leads)
+        to = rw (here, gives, leads);
       }
 
   told : (x : Passage) → Has (passagesIn m rows) x → Told x
@@ -104,7 +104,7 @@ module _ {P : Type 0} (m : Meaning P) (rows : List (Row P)) where
       let a = arc m rows anyRound wf s i b k in
       let x : Passage = record { from = s; outcome = i; colour = graphOf m rows .colour s i; to = graphOf m rows .to s i } in
       let one : Has (passageAt m rows s (a .row .latch) i (a .outcome)) x =
-          rw (a .leads, arc-to m rows anyRound s i a, arc-colour m rows anyRound s i a) (has-first (record { from = s; outcome = i; colour = colourOf (a .row .latch) (a .outcome); to = a .target }) []) in
+      rw (a .leads, arc-to m rows anyRound s i a, arc-colour m rows anyRound s i a) (has-first (record { from = s; outcome = i; colour = colourOf (a .row .latch) (a .outcome); to = a .target }) []) in
       has-numbered (passagesAt m rows) 0 rows x s s (a .row) (omega arith) (a .there)
       (has-numbered (passageAt m rows s (a .row .latch)) 0 (outcomesOf m (a .row)) x i i (a .outcome) (omega arith) (a .gives) one)
 
@@ -115,6 +115,6 @@ module _ {P : Type 0} (m : Meaning P) (rows : List (Row P)) where
         closed = closed m rows anyRound wf;
         true = λ k b. let x = told (passageOf (arcAt arcs k)) (noted .true k b) in record { row = x .from; outcome = x .outcome; colour = x .colour; to = x .to };
         whole = λ s i b k.
-          let w = noted .whole _ (passed wf s i b k) in
-          (w .0, record { there = w .1 .there; row = w .1 .row; colour = w .1 .colour; to = w .1 .to })
+            let w = noted .whole _ (passed wf s i b k) in
+            (w .0, record { there = w .1 .there; row = w .1 .row; colour = w .1 .colour; to = w .1 .to });
       }

@@ -79,10 +79,10 @@ module _ (arcs : List Arc) (p : ℕ) (ranks by : List ℕ) (row : ℕ) (ring : R
         there = next-there;
         front = next-front b;
         first = λ j a c e.
-          ⊎-elim
-          (λ (q : j ≡ k + 1). on (sym next-there ∙ ap (λ (i : ℕ). after g (pickIn arcs by) i row) (sym q) ∙ e))
-          (λ (q : j ≡ k + 1 → ⊥). x .first j a (omega arith) e)
-          (cases-eq j (k + 1))
+            ⊎-elim
+            (λ (q : j ≡ k + 1). on (sym next-there ∙ ap (λ (i : ℕ). after g (pickIn arcs by) i row) (sym q) ∙ e))
+            (λ (q : j ≡ k + 1 → ⊥). x .first j a (omega arith) e)
+            (cases-eq j (k + 1));
       }
 
   pub along-all : k < length was → arcAt arcs (getD by at 0) .to ≡ row → p % 2 ≡ 1 → Written g p was (k + 1) (set is k pair)
@@ -91,8 +91,8 @@ module _ (arcs : List Arc) (p : ℕ) (ranks by : List ℕ) (row : ℕ) (ring : R
       record {
         loop = way g (pickIn arcs by) (k + 1) row;
         losing =
-          rw add-one
-          (ring-loses g p (rankIn ranks) (pickIn arcs by) (tells .closed) (ring .0 .lifted g tells) (length ranks) k row odd on (subst N (add-one k) (next-there ∙ back)) (x .first));
+            rw add-one
+            (ring-loses g p (rankIn ranks) (pickIn arcs by) (tells .closed) (ring .0 .lifted g tells) (length ranks) k row odd on (subst N (add-one k) (next-there ∙ back)) (x .first));
         long = length-way g (pickIn arcs by) (k + 1) row;
-        front = next-front b
+        front = next-front b;
       }

@@ -18,6 +18,8 @@ use Rattle.table.specs.Check.{faults, outcomesIn, checked}
 use Rattle.loops.specs.declared.pair.Pair.{Pair}
 use Rattle.loops.specs.Graph.{NoLoop}
 use Rattle.loops.specs.Table.{graphOf, anyRound, Loses}
+use Rattle.ranker.specs.declared.error.RankError.{RankError}
+use Rattle.ranker.specs.declared.error.RankError.the-variants.{Memory, Refused}
 use Rattle.ranker.specs.Lifts.{Smallest}
 use Rattle.ranker.specs.Loops.{Written}
 
@@ -55,3 +57,9 @@ module _ {P : Type 0} (m : Meaning P) (rows : List (Row P)) (ranks : List ℕ) (
   -- a table that is well formed and has no losing loop
   abbrev pub Sound : Type 0
   Sound = (formFaults ≡ []) × (Loses m rows → ⊥)
+
+  -- the same where memory may be wanting, which leaves both lists as they were
+  abbrev pub RankedOr : Result Accepted RankError → List ℕ → List Pair → Type 0
+  RankedOr (Ok a) ranks′ losing′ = Ranked formFaults (Ok a) ranks′ losing′ × Sound
+  RankedOr (Err Memory) ranks′ losing′ = (ranks′ ≡ ranks) × (losing′ ≡ losing)
+  RankedOr (Err (Refused f)) ranks′ losing′ = Ranked formFaults (Err f) ranks′ losing′ × (Sound → ⊥)

@@ -88,7 +88,12 @@ fn ring_from(arcs: &[Arc], ranks: &[u16], by: &[u32], row: u16) -> Option<u16>
 
 /// Fills in the smallest ranks for an odd colour that keep the rule along every arc; or tells a row on a ring of arcs
 /// that lift one another without end.
-pub(crate) fn rank_colour(arcs: &[Arc], colour: u8, ranks: &mut [u16], by: &mut [u32]) -> Option<u16>
+pub(crate) fn rank_colour(
+    arcs: &[Arc],
+    colour: u8,
+    ranks: &mut [u16],
+    by: &mut [u32],
+) -> Option<u16>
     requires lengths { ⌜ length (now arcs) ≤ 2 ^ 24 ⌝ ∗ ⌜ length (now ranks) ≤ 1024 ⌝ ∗ ⌜ length (now ranks) ≤ length (now by) ⌝ }
     requires told { ⌜ Told (length (now ranks)) (now arcs) ⌝ }
     ensures { λ r. ⌜ Cases r (AllSmallest (now (arcs .entry)) colour (now (ranks .exit))) (λ row. Lifts (now (arcs .entry)) colour (now (ranks .exit)) (now (by .exit)) × OnRings (now (arcs .entry)) (now (ranks .exit)) (now (by .exit)) row) ⌝ }

@@ -1,5 +1,8 @@
 //! The ranker.
 use crate::arc::Arc;
+use crate::error::RankError;
+use crate::error::RankErrorFromAllocError;
+use crate::error::RankErrorFromFault;
 use crate::lifting::rank_colour;
 use crate::notes::Notes;
 use crate::notes::NotesVisitor;
@@ -9,6 +12,7 @@ use arena::arena::Arena;
 use loops::pair::Pair;
 use plan::check::survey;
 use plan::ranks::RANKS_PER_ROW;
+use std::alloc::Global;
 use table::accepted::Accepted;
 use table::fault::Fault;
 use table::row::MAX_ROWS;
@@ -23,7 +27,7 @@ ghost use Rattle.std.specs.Results.{isOk};
 ghost use Rattle.loops.specs.Graph.{Graph};
 ghost use Rattle.ranker.specs.Arcs.{Tells, Told};
 ghost use Rattle.ranker.specs.Loops.{Written, Ringed, Drafted};
-ghost use Rattle.ranker.specs.Ranked.{formFaults, Ranked, Sound};
+ghost use Rattle.ranker.specs.Ranked.{formFaults, Ranked, Sound, RankedOr};
 
 const MAX_RANKS: usize = RANKS_PER_ROW * MAX_ROWS;
 
@@ -103,4 +107,18 @@ pub fn rank_with<A: Arena>(
     let accepted = survey(arena, rows, &mut notes)?;
     rank_arcs(&notes.scratch.arcs, rows.len(), ranks, losing)?;
     Ok(accepted)
+}
+
+/// Ranks a table with memory of its own.
+pub fn rank<A: Arena>(
+    heap: Global,
+    arena: &A,
+    rows: &[Row<A::Position>],
+    ranks: &mut [u16],
+    losing: &mut [Pair],
+) -> Result<Accepted, RankError>
+    ensures { λ r. ⌜ RankedOr (A·Arena .meaning (now (arena .entry))) (now (rows .entry)) (now (ranks .entry)) (now (losing .entry)) r (now (ranks .exit)) (now (losing .exit)) ⌝ }
+{
+    let scratch = Scratch::take(heap)?;
+    Ok(rank_with(scratch, arena, rows, ranks, losing)?)
 }

@@ -14,5 +14,5 @@ returns g c =
     let e = c .survey .ensures .answers in
     record {
       answers = e;
-      accepts = decides-at (isOk r) (isOk (checked m rows ranks)) (ap isOk e) (acceptance m (g .A·Arena·met .lawful (c .args .arena .now)) rows ranks)
+      accepts = decides-at (isOk r) (isOk (checked m rows ranks)) (ap isOk e) (acceptance m (g .A·Arena·met .lawful (c .args .arena .now)) rows ranks);
     }

@@ -20,7 +20,7 @@ check-outcome-requires g c κs =
       sound = c .pre .sound;
       there = (omega arith, omega arith);
       ready = partly-ready (g .V·Visitor .seen) (length (table .rows .now)) (c .args .s)
-        (passagesAt (g .A·Arena .meaning (table .arena .now)) (table .rows .now) (c .args .s) (c .args .row .now)) (c .args .visitor .now) (c .loop-outcome .visitor) _ (c .loop-outcome .inv .part) (c .pre .ready)
+          (passagesAt (g .A·Arena .meaning (table .arena .now)) (table .rows .now) (c .args .s) (c .args .row .now)) (c .args .visitor .now) (c .loop-outcome .visitor) _ (c .loop-outcome .inv .part) (c .pre .ready);
     }
 
 pub add-number : need.add-number

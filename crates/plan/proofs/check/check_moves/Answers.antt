@@ -28,7 +28,7 @@ check-move-requires g c κs =
     record {
       sound = c .pre .sound;
       there = (omega arith, small-latch m rows (c .pre .places) (c .loop-s .s) (c .row-item .result) (nth-read rows (length rows) (c .loop-s .s) (c .row-item .result) refl (omega arith) (c .row-item .is)));
-      ready = (t .behind, (t .shown, t .upto))
+      ready = (t .behind, (t .shown, t .upto));
     }
 
 pub returns-in-Break-outcomes : need.returns-in-Break-outcomes
@@ -43,7 +43,7 @@ returns-in-Break-outcomes g c =
     let e = c .in-Break-outcomes .ensures tt .answers ∙ same-past m rows (g .V·Visitor .rule) (g .V·Visitor .seen) was (length (outcomesOf m r)) (c .loop-s .visitor) (c .loop-s .s) r t in
     record {
       answers = rw (p .1, p .2) (turn-err (moveFaults m rows (g .V·Visitor .rule was (length rows))) rows (length (outcomesOf m r)) (outcomesIn m rows) (c .loop-s .s) r _ (omega arith) (c .row-item .is) e (t .faults));
-      shown = λ q. absurd (both-ways _ (ap isOk (p .1)) q)
+      shown = λ q. absurd (both-ways _ (ap isOk (p .1)) q);
     }
 
 pub loop-s-again : need.loop-s-again

@@ -14,7 +14,7 @@ pub cast-passage-2 : need.cast-passage-2
 cast-passage-2 g c =
     let table = c .args .table .now in
     let t : c .in-Some .t < length (table .rows .now) =
-        first-within (g .A·Arena .meaning (table .arena .now)) _ _ (table .rows .now) (c .in-Some .t) (sym (c .in-Some .ensures tt)) in
+    first-within (g .A·Arena .meaning (table .arena .now)) _ _ (table .rows .now) (c .in-Some .t) (sym (c .in-Some .ensures tt)) in
     omega (arith, c .pre .sound .few)
 
 pub visit-requires : need.visit-requires
@@ -22,7 +22,7 @@ visit-requires g c κs =
     let table = c .args .table .now in
     let m = g .A·Arena .meaning (table .arena .now) in
     let leads : rowAfter m (table .rows .now) (c .args .latch) (c .args .outcome .now) ≡ Some (c .in-Some .t) =
-        ap (firstRow m (table .rows .now) (c .args .outcome .now .position)) (sym (c .latch-after-next .ensures)) ∙ sym (c .in-Some .ensures tt) in
+    ap (firstRow m (table .rows .now) (c .args .outcome .now .position)) (sym (c .latch-after-next .ensures)) ∙ sym (c .in-Some .ensures tt) in
     let r = c .pre .ready in
     (r .0, (r .1 .0, passage-next m (table .rows .now) (c .args .s) (c .args .latch) (c .args .number) (c .in-Some .t) (c .colour-of .result) (c .args .outcome .now) leads (c .colour-of .ensures) (omega arith) (omega arith) (r .0) (r .1 .1)))
 
@@ -44,7 +44,7 @@ returns-then-visit g c =
       answers = outcome-ok m rows s l i t k o leads is tt (g .V·Visitor .rule (c .args .visitor .now) (length rows)) (sym (c .visit .ensures .ruled) ∙ c .if-visit .taken);
       same = c .visit .ensures .same;
       shown = λ _ before h up.
-        let F : List Passage → Type 0 = λ more. seen (before ++ more) in
-        subst F (sym (passage-is m rows s l i t k o leads is))
-        (c .visit .ensures .seen before h (passage-next m rows s l i t k o leads is (omega arith) (omega arith) before up))
+          let F : List Passage → Type 0 = λ more. seen (before ++ more) in
+          subst F (sym (passage-is m rows s l i t k o leads is))
+          (c .visit .ensures .seen before h (passage-next m rows s l i t k o leads is (omega arith) (omega arith) before up));
     }

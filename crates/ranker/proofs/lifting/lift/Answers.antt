@@ -25,7 +25,7 @@ returns c =
       lifts = lifts-more arcs p ranks by k v told there room small is up (c .pre .lifts);
       rose = λ _. (
         slack-less arcs p ranks by k v told there room small is up (c .pre .below (arcAt arcs k .row) (omega (arith, told .1 .size, told .1 .true k there .row))),
-        below-more arcs p ranks by k v told there room small is up (c .pre .below)
+        below-more arcs p ranks by k v told there room small is up (c .pre .below),
       );
-      met = λ e. absurd (true≢false e)
+      met = λ e. absurd (true≢false e);
     }

@@ -13,7 +13,7 @@ use Rattle.ranker.proofs.lifting.rank_colour.Needs as need
 pub loop-row-holds : need.loop-row-holds
 loop-row-holds c =
     let zeros : (s : ℕ) → s < length (c .fill .last .self) → rankIn (c .fill .last .self) s ≡ 0 = λ s b.
-        ap (λ (x : List ℕ). getD x s 0) (c .fill .ensures .after (λ y e. e)) ∙ getD-replicate (length (c .args .ranks .now)) s 0 0 (omega (arith, c .fill .ensures .len)) in
+    ap (λ (x : List ℕ). getD x s 0) (c .fill .ensures .after (λ y e. e)) ∙ getD-replicate (length (c .args .ranks .now)) s 0 0 (omega (arith, c .fill .ensures .len)) in
     (lifts-none (c .args .arcs .now) (c .args .colour) (c .fill .last .self) (c .args .by .now) zeros, λ s b. omega (arith, zeros s b))
 
 pub sweep-requires : need.sweep-requires

@@ -34,15 +34,17 @@ loop-step-again c =
     let g = c .pre .told .0 in
     let tells = c .pre .told .1 in
     let within : at < g .size = omega (arith, c .loop-step .inv .0, tells .size) in
-    let on = tells .closed at (pickIn arcs by at) within (up .lifted g tells .stands at within here .there) in
-    (omega (arith, leads arcs (c .pre .lifts .0) ranks by up at (c .loop-step .inv .0) here g tells, on, tells .size),
-    λ g tells.
-      let inv = c .loop-step .inv .1 g tells in
-      let R : ℕ → Type 0 = λ x. 0 < rankIn ranks x in
-      (after-more g (pickIn arcs by) (c .loop-step .-step) (c .args .row)
-      ∙ ap (λ (x : ℕ). g .to x (pickIn arcs by x)) (inv .0)
-      ∙ leads arcs (c .pre .lifts .0) ranks by up at (c .loop-step .inv .0) here g tells,
-      below-more _ _ (inv .1) (subst R (sym (inv .0)) here)))
+    let on = tells .closed at (pickIn arcs by at) within (up .lifted g tells .stands at within here .there) in (
+      omega (arith, leads arcs (c .pre .lifts .0) ranks by up at (c .loop-step .inv .0) here g tells, on, tells .size),
+      λ g tells.
+          let inv = c .loop-step .inv .1 g tells in
+          let R : ℕ → Type 0 = λ x. 0 < rankIn ranks x in (
+            after-more g (pickIn arcs by) (c .loop-step .-step) (c .args .row)
+                ∙ ap (λ (x : ℕ). g .to x (pickIn arcs by x)) (inv .0)
+                ∙ leads arcs (c .pre .lifts .0) ranks by up at (c .loop-step .inv .0) here g tells,
+            below-more _ _ (inv .1) (subst R (sym (inv .0)) here),
+          ),
+    )
 
 pub returns : need.returns
 returns c = λ g tells.

@@ -11,5 +11,5 @@ abbrev pub Inv-loop-step : given.InvT-loop-step
 Inv-loop-step l =
     (l .at < length (l .ranks))
     × ((g : Graph) → Tells (length (l .ranks)) (l .arcs) g →
-      (after g (pickIn (l .arcs) (l .by)) (l .-step) (l .row) ≡ l .at)
-      × ((j : ℕ) → j < l .-step → 0 < rankIn (l .ranks) (after g (pickIn (l .arcs) (l .by)) j (l .row))))
+    (after g (pickIn (l .arcs) (l .by)) (l .-step) (l .row) ≡ l .at)
+    × ((j : ℕ) → j < l .-step → 0 < rankIn (l .ranks) (after g (pickIn (l .arcs) (l .by)) j (l .row))))

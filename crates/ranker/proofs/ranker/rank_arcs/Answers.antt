@@ -16,8 +16,8 @@ pub returns : need.returns
 returns c =
     record {
       drafted = λ g tells.
-        let d = c .in-Continue-draft-ranks .ensures tt g tells in
-        let F : List ℕ → Type 0 = λ xs. (q : ℕ) → q < 4 → Smallest g (2 * q + 1) (λ s. getD xs (q * c .args .n + s) 0) in
-        (subst F (sym (c .copy-from-slice .ensures .after)) (d .0), d .1);
-      rest = λ e. absurd (true≢false e)
+          let d = c .in-Continue-draft-ranks .ensures tt g tells in
+          let F : List ℕ → Type 0 = λ xs. (q : ℕ) → q < 4 → Smallest g (2 * q + 1) (λ s. getD xs (q * c .args .n + s) 0) in
+          (subst F (sym (c .copy-from-slice .ensures .after)) (d .0), d .1);
+      rest = λ e. absurd (true≢false e);
     }

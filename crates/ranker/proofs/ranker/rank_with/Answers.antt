@@ -26,7 +26,7 @@ rank-arcs-requires g c κs =
     let F : List Arc → Type 0 = λ arcs. Tells (length rows) arcs (graphOf m rows) in
     record {
       lengths = (omega (arith, ap length (c .deref .ensures .value), noted-few (length rows) _ (vec-items (notes .scratch .arcs)) (notes .stamps) (e .shown refl)), (few m rows ranks losing a (e .answers), (four m rows ranks losing a (e .answers), enough m rows ranks losing a (e .answers))));
-      told = (graphOf m rows, subst F (sym (c .deref .ensures .value)) (noted-tells m rows (well m rows ranks losing a (e .answers)) (vec-items (notes .scratch .arcs)) (notes .stamps) (e .shown refl)))
+      told = (graphOf m rows, subst F (sym (c .deref .ensures .value)) (noted-tells m rows (well m rows ranks losing a (e .answers)) (vec-items (notes .scratch .arcs)) (notes .stamps) (e .shown refl)));
     }
 
 pub returns-in-Break-rank-arcs : need.returns-in-Break-rank-arcs
@@ -40,14 +40,14 @@ returns-in-Break-rank-arcs g c =
     let a = c .in-Continue-accepted .accepted in
     let F : List Arc → Type 0 = λ arcs. Tells (length rows) arcs (graphOf m rows) in
     let tells : Tells (length rows) (c .deref .result .now) (graphOf m rows) =
-        subst F (sym (c .deref .ensures .value)) (noted-tells m rows (well m rows ranks losing a (e .answers)) (vec-items (notes .scratch .arcs)) (notes .stamps) (e .shown refl)) in
+    subst F (sym (c .deref .ensures .value)) (noted-tells m rows (well m rows ranks losing a (e .answers)) (vec-items (notes .scratch .arcs)) (notes .stamps) (e .shown refl)) in
     let p = err-from-errBy (c .from-residual-in-Break-rank-arcs .result) (c .from-residual-in-Break-rank-arcs .ensures .1) in
     let is = p .1 ∙ ap Err (p .2) in
     let d = c .in-Break-rank-arcs .ensures tt .drafted (graphOf m rows) tells in
     let rest = c .in-Break-rank-arcs .ensures tt .rest refl in
     record {
       ranked = refuted m rows ranks losing a (e .answers) (c .rank-arcs .last .ranks) (c .rank-arcs .last .losing) (c .from-residual-in-Break-rank-arcs .result) _ is d rest;
-      exact = refuted-exact m rows ranks losing a (e .answers) (c .rank-arcs .last .ranks) (c .rank-arcs .last .losing) (c .from-residual-in-Break-rank-arcs .result) _ is d rest
+      exact = refuted-exact m rows ranks losing a (e .answers) (c .rank-arcs .last .ranks) (c .rank-arcs .last .losing) (c .from-residual-in-Break-rank-arcs .result) _ is d rest;
     }
 
 pub returns : need.returns
@@ -61,9 +61,9 @@ returns g c =
     let a = c .in-Continue-accepted .accepted in
     let F : List Arc → Type 0 = λ arcs. Tells (length rows) arcs (graphOf m rows) in
     let tells : Tells (length rows) (c .deref .result .now) (graphOf m rows) =
-        subst F (sym (c .deref .ensures .value)) (noted-tells m rows (well m rows ranks losing a (e .answers)) (vec-items (notes .scratch .arcs)) (notes .stamps) (e .shown refl)) in
+    subst F (sym (c .deref .ensures .value)) (noted-tells m rows (well m rows ranks losing a (e .answers)) (vec-items (notes .scratch .arcs)) (notes .stamps) (e .shown refl)) in
     let d = c .in-Continue-rank-arcs .ensures tt .drafted (graphOf m rows) tells in
     record {
       ranked = filled m rows ranks losing a (e .answers) (c .rank-arcs .last .ranks) (c .rank-arcs .last .losing) d (c .rank-arcs .kept .ranks);
-      exact = filled-exact m rows ranks losing a (e .answers) (c .rank-arcs .last .ranks) (c .rank-arcs .last .losing) d (c .rank-arcs .kept .ranks)
+      exact = filled-exact m rows ranks losing a (e .answers) (c .rank-arcs .last .ranks) (c .rank-arcs .last .losing) d (c .rank-arcs .kept .ranks);
     }

@@ -36,7 +36,7 @@ loop-at-again c =
     let was = c .args .losing .now in
     let r = c .pre .ring .1 .1 in
     let more = λ (p : ℕ) (ranks : List ℕ) (g : Graph) (ring : Ringed arcs p ranks by row) (tells : Tells (length ranks) arcs g).
-        along-more arcs p ranks by row ring g tells was (c .loop-at .losing) (c .loop-at .length) (c .loop-at .at) (c .loop-at .inv .4 p ranks g ring tells) (c .loop-at .inv .2) (c .if-at-row .left) in
+    along-more arcs p ranks by row ring g tells was (c .loop-at .losing) (c .loop-at .length) (c .loop-at .at) (c .loop-at .inv .4 p ranks g ring tells) (c .loop-at .inv .2) (c .if-at-row .left) in
     let b = along-bounds arcs (c .pre .ring .0) (c .pre .ring .1 .0) by row (r .0) (r .1 .0) (r .1 .1) was _ _ _
-        (more (c .pre .ring .0) (c .pre .ring .1 .0) (r .1 .0) (r .0) (r .1 .1)) _ (r .2) (r .3) (r .4) in
+    (more (c .pre .ring .0) (c .pre .ring .1 .0) (r .1 .0) (r .0) (r .1 .1)) _ (r .2) (r .3) (r .4) in
     (b .0, b .1, b .2, b .3, more)

@@ -12,7 +12,7 @@ abbrev pub Inv-loop-at : given.InvT-loop-at
 Inv-loop-at l =
     (l .at < length (l .by)) × (getD (l .by) (l .at) 0 < length (l .arcs)) × (l .length < length (l .entry .losing)) × (l .length < 1024)
     × ((p : ℕ) (ranks : List ℕ) (g : Graph) → Ringed (l .arcs) p ranks (l .by) (l .row) → Tells (length ranks) (l .arcs) g →
-      Along g (pickIn (l .arcs) (l .by)) (l .row) (l .length) (l .at) (l .entry .losing) (l .losing))
+    Along g (pickIn (l .arcs) (l .by)) (l .row) (l .length) (l .at) (l .entry .losing) (l .losing))
 
 abbrev pub μ-loop-at : given.MeasureT-loop-at
 μ-loop-at l = length (l .entry .losing) - l .length

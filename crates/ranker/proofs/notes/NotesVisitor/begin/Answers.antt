@@ -16,5 +16,5 @@ returns-then-self-rows c =
     record {
       fits = rw (eq-eqb _ _ (c .if-self-rows .taken));
       same = refl;
-      seen = λ _. subst F (sym (c .clear .ensures .items)) (noted-none (c .args .rows) (c .fill .last .self) (omega arith) (c .fill .ensures .after (λ y e. e) ∙ ap (λ (k : ℕ). replicate {A = ℕ} k 0) keys))
+      seen = λ _. subst F (sym (c .clear .ensures .items)) (noted-none (c .args .rows) (c .fill .last .self) (omega arith) (c .fill .ensures .after (λ y e. e) ∙ ap (λ (k : ℕ). replicate {A = ℕ} k 0) keys));
     }

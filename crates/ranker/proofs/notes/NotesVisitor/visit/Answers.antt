@@ -27,7 +27,7 @@ returns-then-self-key c =
     record {
       ruled = refl;
       same = refl;
-      seen = λ before was next. rw (c .push-reserved .ensures .items, add-one) (noted-more (c .args .-rows) before arcs (self .stamps) x was next new)
+      seen = λ before was next. rw (c .push-reserved .ensures .items, add-one) (noted-more (c .args .-rows) before arcs (self .stamps) x was next new);
     }
 
 pub returns-else-self-key : need.returns-else-self-key
@@ -37,5 +37,5 @@ returns-else-self-key c =
       ruled = refl;
       same = refl;
       seen = λ before was next.
-        noted-same (c .args .-rows) before (vec-items (self .scratch .arcs)) (self .stamps) (c .args .passage) was next (c .if-self-key .left ∙ add-one (c .args .passage .from))
+          noted-same (c .args .-rows) before (vec-items (self .scratch .arcs)) (self .stamps) (c .args .passage) was next (c .if-self-key .left ∙ add-one (c .args .passage .from));
     }
