@@ -13,19 +13,20 @@ use Rattle.table.specs.declared.fault.Fault.{Fault}
 use Rattle.table.specs.Check.{numbered, verdict}
 use Rattle.table.proofs.Lists.{verdict-ok, verdict-err}
 
-module _ {X : Type 0} (F : ℕ → X → List Fault) (xs : List X) where
-  split : (i : ℕ) (x : X) → i < length xs → x ≡ getD xs i x → numbered F i (drop i xs) ≡ F i x ++ numbered F (i + 1) (drop (i + 1) xs)
+module _ {X Y : Type 0} (F : ℕ → X → List Y) (xs : List X) where
+  pub split : (i : ℕ) (x : X) → i < length xs → x ≡ getD xs i x → numbered F i (drop i xs) ≡ F i x ++ numbered F (i + 1) (drop (i + 1) xs)
   split i x b e = at-drop-more (numbered F i) xs i x b ∙ rw (← e, add-one)
 
+module _ {X : Type 0} (F : ℕ → X → List Fault) (xs : List X) where
   -- a turn without a fault
   pub turn-more : {R : Type 0} (r a : R) (i : ℕ) (x : X) → i < length xs → x ≡ getD xs i x → Ok a ≡ verdict r (F i x) →
       numbered F i (drop i xs) ≡ numbered F 0 xs → numbered F (i + 1) (drop (i + 1) xs) ≡ numbered F 0 xs
-  turn-more r a i x b e v inv = let none = verdict-ok r a (F i x) v .0 in sym (split i x b e ∙ rw none) ∙ inv
+  turn-more r a i x b e v inv = let none = verdict-ok r a (F i x) v .0 in sym (split F xs i x b e ∙ rw none) ∙ inv
 
   -- a turn with one
   pub turn-err : {R S : Type 0} (r : R) (s : S) (i : ℕ) (x : X) (f : Fault) → i < length xs → x ≡ getD xs i x → Err f ≡ verdict r (F i x) →
       numbered F i (drop i xs) ≡ numbered F 0 xs → Err f ≡ verdict s (numbered F 0 xs)
-  turn-err r s i x f b e v inv = rw (← inv, split i x b e) (verdict-err r s (F i x) _ f v)
+  turn-err r s i x f b e v inv = rw (← inv, split F xs i x b e) (verdict-err r s (F i x) _ f v)
 
   -- after the last turn
   pub turn-end : (i : ℕ) → length xs ≤ i → numbered F i (drop i xs) ≡ numbered F 0 xs → numbered F 0 xs ≡ []

@@ -1,4 +1,6 @@
 //! Plans over any arena: whether a table of rows with its ranks wins.
 pub mod check;
 mod index;
-mod ranks;
+pub mod passage;
+pub mod ranks;
+pub mod visitor;

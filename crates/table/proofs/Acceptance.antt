@@ -46,7 +46,7 @@ keeps-falls ranks n p c s t e =
     (cond-ways (eqb p c) _ _ q))
     (or-cases (ltb p c) _ e)
 
-falls-keeps : (ranks : List ℕ) (n p c s t : ℕ) → Falls ranks n p c s t → keepsFor ranks n p c s t ≡ true
+pub falls-keeps : (ranks : List ℕ) (n p c s t : ℕ) → Falls ranks n p c s t → keepsFor ranks n p c s t ≡ true
 falls-keeps ranks n p c s t f =
     ⊎-elim
     (λ (h : p < c). or-left _ _ (lt-ltb p c h))
@@ -58,7 +58,7 @@ falls-keeps ranks n p c s t f =
     (cases-eq p c)))
     (cases-lt p c)
 
-odd : (p : ℕ) → p % 2 ≡ 1 → p ≤ 7 → (p ≡ 1) ⊎ ((p ≡ 3) ⊎ ((p ≡ 5) ⊎ (p ≡ 7)))
+pub odd : (p : ℕ) → p % 2 ≡ 1 → p ≤ 7 → (p ≡ 1) ⊎ ((p ≡ 3) ⊎ ((p ≡ 5) ⊎ (p ≡ 7)))
 odd p e b =
     ⊎-elim inl
     (λ (n1 : p ≡ 1 → ⊥).
@@ -68,7 +68,7 @@ odd p e b =
     (cases-eq p 3)))
     (cases-eq p 1)
 
-keeps-odd : (ranks : List ℕ) (n c s t p : ℕ) → keeps ranks n c s t ≡ true → p % 2 ≡ 1 → p ≤ 7 → keepsFor ranks n p c s t ≡ true
+pub keeps-odd : (ranks : List ℕ) (n c s t p : ℕ) → keeps ranks n c s t ≡ true → p % 2 ≡ 1 → p ≤ 7 → keepsFor ranks n p c s t ≡ true
 keeps-odd ranks n c s t p e o b =
     let one = and-parts _ _ e in
     let three = and-parts _ _ (one .1) in
@@ -88,23 +88,23 @@ not-before s t None e h = absurd (none-some h)
 not-before s t (Some k) e h = omega (arith, ltb-false k s e, some-same h)
 
 -- the five tests of the check, each without a fault
-record Clean {P : Type 0} (m : Meaning P) (rows : List (Row P)) (rule : ℕ → ℕ → ℕ → Bool) (given : ℕ) : Type 0 where
+record Clean {P : Type 0} (m : Meaning P) (rows : List (Row P)) (rule : ℕ → ℕ → ℕ → Bool) (fit : Bool) : Type 0 where
   few : ltb 1024 (length rows) ≡ false
-  four : not (eqb given (4 * length rows)) ≡ false
+  four : not fit ≡ false
   places : numbered (placeFaults m rows) 0 rows ≡ []
   first : not (isSome (startRow m rows)) ≡ false
   moves : numbered (moveFaults m rows rule) 0 rows ≡ []
 
-module _ {P : Type 0} (m : Meaning P) (rows : List (Row P)) (rule : ℕ → ℕ → ℕ → Bool) (given : ℕ) where
-  clean : faults m rows rule given ≡ [] → Clean m rows rule given
+module _ {P : Type 0} (m : Meaning P) (rows : List (Row P)) (rule : ℕ → ℕ → ℕ → Bool) (fit : Bool) where
+  clean : faults m rows rule fit ≡ [] → Clean m rows rule fit
   clean e =
       let a = append-nil (when (ltb 1024 (length rows)) TooManyRows) _ e in
-      let b = append-nil (when (not (eqb given (4 * length rows))) WrongLengths) _ (a .1) in
+      let b = append-nil (when (not fit) WrongLengths) _ (a .1) in
       let c = append-nil (numbered (placeFaults m rows) 0 rows) _ (b .1) in
       let d = append-nil (startFaults m rows) _ (c .1) in
       record { few = when-nil _ _ (a .0); four = when-nil _ _ (b .0); places = c .0; first = when-nil _ _ (d .0); moves = d .1 }
 
-  faultless : Clean m rows rule given → faults m rows rule given ≡ []
+  faultless : Clean m rows rule fit → faults m rows rule fit ≡ []
   faultless c = rw (c .few, c .four, c .places, c .first, c .moves)
 
 module _ {P : Type 0} (m : Meaning P) (ok : Lawful m) (rows : List (Row P)) (ranks : List ℕ) where
@@ -114,7 +114,7 @@ module _ {P : Type 0} (m : Meaning P) (ok : Lawful m) (rows : List (Row P)) (ran
   target-nil c s i None e = absurd (cons-nil e)
   target-nil c s i (Some t) e = (t, refl, not-false _ (when-nil _ _ e))
 
-  module _ (c : Clean m rows (keeps ranks (length rows)) (length ranks)) where
+  module _ (c : Clean m rows (keeps ranks (length rows)) (eqb (length ranks) (4 * length rows))) where
     place : (s : ℕ) (r : Row P) → nth rows s ≡ Some r → (isOwn m r ≡ true) × (isBefore s (firstRow m rows (r .position) (r .latch)) ≡ false)
     place s r e =
         let q = append-nil (when (not (isOwn m r)) (NotOwn s)) _ (numbered-nil (placeFaults m rows) rows (c .places) s r e) in
@@ -186,7 +186,7 @@ module _ {P : Type 0} (m : Meaning P) (ok : Lawful m) (rows : List (Row P)) (ran
     no-move s r e =
         rw (a .legal s r e, numbered-all (outcomeFaults m rows (keeps ranks (length rows)) s (r .latch)) (outcomesOf m r) (λ i o h. no-target s i r o e h))
 
-    cleaned : Clean m rows (keeps ranks (length rows)) (length ranks)
+    cleaned : Clean m rows (keeps ranks (length rows)) (eqb (length ranks) (4 * length rows))
     cleaned =
         let f = stands-first m _ _ ok rows (a .starts .0) (a .starts .1) in
         record {
@@ -204,6 +204,6 @@ verdict-nil r (f ∷ fs) e = absurd (both-ways true (sym e) refl)
 -- The check accepts exactly the tables that are accepted in words.
 pub acceptance : {P : Type 0} (m : Meaning P) → Lawful m → (rows : List (Row P)) (ranks : List ℕ) → Decides (isOk (checked m rows ranks)) (Accepts m rows ranks)
 acceptance m ok rows ranks = (
-  λ e. accepts m ok rows ranks (clean m rows (keeps ranks (length rows)) (length ranks) (verdict-nil _ _ e)),
-  λ a. rw (faultless m rows (keeps ranks (length rows)) (length ranks) (cleaned m ok rows ranks a)),
+  λ e. accepts m ok rows ranks (clean m rows (keeps ranks (length rows)) (eqb (length ranks) (4 * length rows)) (verdict-nil _ _ e)),
+  λ a. rw (faultless m rows (keeps ranks (length rows)) (eqb (length ranks) (4 * length rows)) (cleaned m ok rows ranks a)),
 )

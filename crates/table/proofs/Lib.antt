@@ -1,3 +1,4 @@
 pub mod Lists
 pub mod Finds
 pub mod Acceptance
+pub mod Bounds

@@ -25,7 +25,7 @@ abbrev pub when : Bool → Fault → List Fault
 when b f = cond b (f ∷ []) []
 
 -- what f finds at each of xs, numbered from n on
-abbrev pub numbered : {X : Type 0} → (ℕ → X → List Fault) → ℕ → List X → List Fault
+abbrev pub numbered : {X Y : Type 0} → (ℕ → X → List Y) → ℕ → List X → List Y
 numbered f n [] = []
 numbered f n (x ∷ xs) = f n x ++ numbered f (suc n) xs
 
@@ -67,11 +67,11 @@ module _ {P : Type 0} (m : Meaning P) (rows : List (Row P)) (rule : ℕ → ℕ 
       when (not (m .legal (r .position) (r .choice))) (IllegalMove s)
       ++ numbered (outcomeFaults s (r .latch)) 0 (outcomesOf m r)
 
-  -- of a table with so many ranks, in the order of the tests
-  abbrev pub faults : ℕ → List Fault
-  faults given =
+  -- of a table beside lists that have their lengths or not, in the order of the tests
+  abbrev pub faults : Bool → List Fault
+  faults fit =
       when (ltb 1024 (length rows)) TooManyRows
-      ++ (when (not (eqb given (4 * length rows))) WrongLengths
+      ++ (when (not fit) WrongLengths
       ++ (numbered (placeFaults m rows) 0 rows
       ++ (startFaults m rows
       ++ numbered moveFaults 0 rows)))
@@ -80,7 +80,10 @@ module _ {P : Type 0} (m : Meaning P) (rows : List (Row P)) (rule : ℕ → ℕ 
 abbrev pub outcomesIn : {P : Type 0} → Meaning P → List (Row P) → ℕ
 outcomesIn m rows = sumBy (λ r. length (outcomesOf m r)) rows
 
+-- a table's verdict under a rule, beside lists that have their lengths or not
+abbrev pub judged : {P : Type 0} → Meaning P → List (Row P) → (ℕ → ℕ → ℕ → Bool) → Bool → Result Accepted Fault
+judged m rows rule fit = verdict (record { rows = length rows; outcomes = outcomesIn m rows }) (faults m rows rule fit)
+
+-- the check's: the ranks keep their rule
 abbrev pub checked : {P : Type 0} → Meaning P → List (Row P) → List ℕ → Result Accepted Fault
-checked m rows ranks =
-    verdict (record { rows = length rows; outcomes = outcomesIn m rows })
-    (faults m rows (keeps ranks (length rows)) (length ranks))
+checked m rows ranks = judged m rows (keeps ranks (length rows)) (eqb (length ranks) (4 * length rows))

@@ -2,7 +2,7 @@
 ghost use mathlib.Core.Path.{_≡_};
 ghost use Rattle.table.specs.Faults.{numberOf, placeOf, detailOf};
 
-/// A refusal, with the row and the outcome that it names, each numbered from 0.
+/// A refusal, with what it names: a row and an outcome, each numbered from 0, or a loop.
 #[derive(Clone, Copy, PartialEq, Eq, Debug)]
 pub enum Fault {
     /// The table has more than 1,024 rows.
@@ -19,7 +19,9 @@ pub enum Fault {
     NoRow { row: u16, outcome: u16 },
     /// The ranks break their rule at the outcome.
     RankRule { row: u16, outcome: u16 },
-    /// There are not four ranks for each row.
+    /// There is a losing loop of this length, whose largest colour is the smallest odd one that a loop has.
+    LosingLoop { length: u16, colour: u8 },
+    /// There are not four ranks for each row, or fewer pairs for a loop than rows.
     WrongLengths,
     /// The walk stands where no row is.
     NoRowHere,
@@ -44,13 +46,14 @@ impl Fault {
             Fault::IllegalMove { .. } | Fault::IllegalHere => 11,
             Fault::NoRow { .. } | Fault::NoRowHere => 12,
             Fault::RankRule { .. } => 13,
+            Fault::LosingLoop { .. } => 14,
             Fault::WrongLengths => 15,
             Fault::NoOutcome => 16,
             Fault::TooManyRounds => 17,
         }
     }
 
-    /// The row that the refusal names, else 0.
+    /// The row that the refusal names, or the length of its loop, else 0.
     pub fn place(self) -> u32
         ensures { λ r. ⌜ r ≡ placeOf self ⌝ }
     {
@@ -60,6 +63,7 @@ impl Fault {
             | Fault::IllegalMove { row }
             | Fault::NoRow { row, .. }
             | Fault::RankRule { row, .. } => row as u32,
+            Fault::LosingLoop { length, .. } => length as u32,
             Fault::TooManyRows
             | Fault::NoStartRow
             | Fault::WrongLengths
@@ -70,12 +74,13 @@ impl Fault {
         }
     }
 
-    /// The outcome that the refusal names, else 0.
+    /// The outcome that the refusal names, or the colour of its loop, else 0.
     pub fn detail(self) -> u32
         ensures { λ r. ⌜ r ≡ detailOf self ⌝ }
     {
         match self {
             Fault::NoRow { outcome, .. } | Fault::RankRule { outcome, .. } => outcome as u32,
+            Fault::LosingLoop { colour, .. } => colour as u32,
             Fault::TooManyRows
             | Fault::NotOwn { .. }
             | Fault::Repeated { .. }

@@ -1,0 +1,3 @@
+pub mod Graph
+pub mod Lifting
+pub mod Table

@@ -1,0 +1,5 @@
+pub mod Arcs
+pub mod Lifts
+pub mod Notes
+pub mod Loops
+pub mod Ranked
