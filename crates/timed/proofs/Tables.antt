@@ -14,7 +14,7 @@ use Rattle.game.specs.declared.bounds.Zone.{Zone}
 use Rattle.game.specs.declared.parts.Location.{Location}
 use Rattle.game.specs.declared.parts.Edge.{Edge}
 use Rattle.game.specs.Intervals.{inhabited, bounded, everywhere, fitting}
-use Rattle.game.specs.Game.{Game, suits, resetting, soundLocation, soundEdge, sound}
+use Rattle.game.specs.Game.{Game, suits, resetting, soundLocation, sound}
 use Rattle.game.proofs.Sounds.{every-all, nth-all, sound-made, sound-edge}
 use Rattle.timed.specs.Rows.{habitable}
 

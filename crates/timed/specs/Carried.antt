@@ -1,6 +1,6 @@
 -- What a move of either side comes to.
 use mathlib.Core.List.{List}
-use mathlib.Core.Bool.{Bool, cond, _&&_}
+use mathlib.Core.Bool.{cond, _&&_}
 use Prim.Native.Nat.{ℕ}
 use lib.Dec.{leb}
 use Rattle.std.specs.declared.option.Option.{Option}
@@ -11,7 +11,7 @@ use Rattle.arena.specs.declared.moves.Move.{Move}
 use Rattle.arena.specs.declared.moves.Outcome.{Outcome}
 use Rattle.clocks.specs.Regions.{Part, waits}
 use Rattle.game.specs.declared.parts.TimedPosition.{TimedPosition}
-use Rattle.game.specs.Game.{Game, owns, legal, welcomed, edgeAt, result}
+use Rattle.game.specs.Game.{Game, legal, welcomed, edgeAt, result}
 use Rattle.game.specs.Timed.{placeOf, inCode}
 
 module _ (g : Game) (s : Side) where

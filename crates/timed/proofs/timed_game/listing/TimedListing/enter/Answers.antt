@@ -1,4 +1,3 @@
-use mathlib.Core.Path.{_∙_, ap, sym}
 use Rattle.regions.specs.Standing.{standing}
 use Rattle.timed.proofs.Listing.{entered}
 use Rattle.timed.proofs.timed_game.listing.TimedListing.enter.Needs as need
