@@ -8,6 +8,7 @@ ghost use Rattle.casetext.specs.Case.{rankOf, column, rankList};
 use casetext::ranks::OddColour;
 use casetext::ranks::Ranks;
 
+/// The rank for a colour.
 fn rank_of(ranks: Ranks, colour: OddColour) -> u16
     ensures { λ r. ⌜ r ≡ rankOf colour ranks ⌝ }
 {
