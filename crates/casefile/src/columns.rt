@@ -1,6 +1,6 @@
 //! The ranks of all rows in one list.
 ghost use mathlib.Core.Path.{_≡_};
-ghost use mathlib.Core.List.{_++_};
+ghost use mathlib.Core.List.{[], _++_};
 ghost use Prim.Native.Nat.{_+_, _*_, _≤_};
 ghost use lib.ListN.{length};
 ghost use Rattle.std.specs.Of.Vec.{vec-items, vec-len, vec-cap};
@@ -8,6 +8,7 @@ ghost use Rattle.casetext.specs.Case.{rankOf, column, rankList};
 use casetext::ranks::OddColour;
 use casetext::ranks::Ranks;
 
+/// The rank for a colour.
 fn rank_of(ranks: Ranks, colour: OddColour) -> u16
     ensures { λ r. ⌜ r ≡ rankOf colour ranks ⌝ }
 {
@@ -33,7 +34,7 @@ fn push_column(columns: &mut Vec<u16>, ranks: &[Ranks], colour: OddColour)
 
 /// Fills an empty list: the ranks of colour 1 for all rows, then of colours 3, 5 and 7.
 pub(crate) fn fill_columns(columns: &mut Vec<u16>, ranks: &[Ranks])
-    requires { ⌜ vec-len (now columns) ≡ 0 ⌝ ∗ ⌜ 4 * length (now ranks) ≤ vec-cap (now columns) ⌝ }
+    requires { ⌜ vec-items (now columns) ≡ [] ⌝ ∗ ⌜ 4 * length (now ranks) ≤ vec-cap (now columns) ⌝ }
     ensures { λ _. ⌜ vec-items (now (columns .exit)) ≡ rankList (now (ranks .entry)) ⌝ }
 {
     push_column(columns, ranks, OddColour::One);

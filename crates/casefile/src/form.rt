@@ -1,22 +1,16 @@
 //! What is wrong with single fields.
 ghost use mathlib.Core.Path.{_≡_};
-ghost use Rattle.std.specs.shelf.Text.{sameBytes};
 ghost use Rattle.casetext.specs.Fields.{allLetters, letters, unless, wrong};
 ghost use Rattle.casetext.specs.Lines.{kind};
 use crate::interval::fits_clock;
 use crate::interval::read_interval;
 use crate::limits::MAX_EDGE;
 use crate::limits::MAX_LOCATION;
+use crate::text::is_word;
 use crate::text::read_number;
 use casetext::fault::TextFault;
 use casetext::line::Form;
 use casetext::line::Kind;
-
-pub(crate) fn is_word(field: &[u8], word: &[u8]) -> bool
-    ensures { λ r. ⌜ r ≡ sameBytes (now (field .entry)) (now (word .entry)) ⌝ }
-{
-    field == word
-}
 
 /// The kind of line that the first field names.
 pub(crate) fn read_kind(field: &[u8]) -> Option<Kind>
@@ -35,6 +29,7 @@ pub(crate) fn read_kind(field: &[u8]) -> Option<Kind>
     }
 }
 
+/// Nothing but `r` and `k`.
 fn are_letters(field: &[u8]) -> bool
     ensures { λ r. ⌜ r ≡ allLetters (now (field .entry)) ⌝ }
 {
@@ -57,6 +52,7 @@ fn suits_clocks(clocks: usize, field: &[u8]) -> bool
     }
 }
 
+/// The fault, unless all is fine.
 fn unless_fine(fine: bool, fault: TextFault) -> Option<TextFault>
     ensures { λ r. ⌜ r ≡ unless fine fault ⌝ }
 {

@@ -5,6 +5,7 @@ ghost use Rattle.game.specs.Intervals.{inhabited, bounded};
 ghost use Rattle.casetext.specs.Fields.{bracket, bound, upper, interval};
 use crate::limits::MAX_BOUND;
 use crate::text::cut;
+use crate::text::is_word;
 use crate::text::read_number;
 use game::bounds::Bound;
 use game::bounds::Bounds;
@@ -24,6 +25,7 @@ fn is_round(b: u8, square: u8, round: u8) -> Option<bool>
     }
 }
 
+/// A bound, which is open beside a round bracket.
 fn read_bound(open: bool, field: &[u8]) -> Option<Bound>
     ensures { λ r. ⌜ r ≡ bound «open» (now (field .entry)) ⌝ }
 {
@@ -35,7 +37,7 @@ fn read_bound(open: bool, field: &[u8]) -> Option<Bound>
 fn read_upper(open: bool, field: &[u8]) -> Option<Option<Bound>>
     ensures { λ r. ⌜ r ≡ upper «open» (now (field .entry)) ⌝ }
 {
-    if field == b"-" {
+    if is_word(field, b"-") {
         return if open { Some(None) } else { None };
     }
     Some(Some(read_bound(open, field)?))

@@ -4,7 +4,6 @@ ghost use Prim.Native.Nat.{_≤_, _<_};
 ghost use Rattle.casetext.specs.Text.{fields};
 ghost use Rattle.casetext.specs.Items.{bounds, zone, location, side, resetAt, resets, edge, clockAt, clockOf, region, row, ranks};
 use crate::fields::nth_field;
-use crate::form::is_word;
 use crate::interval::read_interval;
 use crate::limits::MAX_CLASS;
 use crate::limits::MAX_EDGE;
@@ -14,6 +13,7 @@ use crate::limits::MAX_RANK;
 use crate::limits::MAX_STEPS;
 use crate::limits::MAX_WHOLE;
 use crate::text::byte_at;
+use crate::text::is_word;
 use crate::text::read_number;
 use crate::text::value_of;
 use arena::moves::Move;
@@ -39,6 +39,7 @@ const EVERYTHING: Bounds = Bounds {
     high: None,
 };
 
+/// The interval that the field is, or `[0,-)`.
 fn bounds_of(field: &[u8]) -> Bounds
     ensures { λ r. ⌜ r ≡ bounds (now (field .entry)) ⌝ }
 {
@@ -57,6 +58,7 @@ fn zone_of(line: &[u8], i: usize) -> Zone
     }
 }
 
+/// The location of a `loc` line.
 pub(crate) fn location_of(line: &[u8]) -> Location
     ensures { λ r. ⌜ r ≡ location (fields (now (line .entry))) ⌝ }
 {
@@ -66,6 +68,7 @@ pub(crate) fn location_of(line: &[u8]) -> Location
     }
 }
 
+/// Whose edge it is.
 fn side_of(field: &[u8]) -> Side
     ensures { λ r. ⌜ r ≡ side (now (field .entry)) ⌝ }
 {
@@ -83,6 +86,7 @@ fn resets_at(letters: &[u8], i: usize) -> bool
     byte_at(letters, i) == b'r'
 }
 
+/// The clocks whose letters reset them.
 fn resets_of(letters: &[u8]) -> Resets
     ensures { λ r. ⌜ r ≡ resets (now (letters .entry)) ⌝ }
 {
@@ -93,6 +97,7 @@ fn resets_of(letters: &[u8]) -> Resets
     }
 }
 
+/// The edge of an `edge` line.
 pub(crate) fn edge_of(line: &[u8]) -> Edge
     ensures { λ r. ⌜ r ≡ edge (fields (now (line .entry))) ⌝ }
 {
@@ -128,6 +133,7 @@ fn clock_of(line: &[u8], clocks: usize, i: usize) -> ClockRegion
     }
 }
 
+/// Where so many clocks and the tick clock stand.
 fn region_of(line: &[u8], clocks: usize) -> Region
     requires { ⌜ clocks ≤ 3 ⌝ }
     ensures { λ r. ⌜ r ≡ region clocks (fields (now (line .entry))) ⌝ }

@@ -65,6 +65,7 @@ fn edge_form(locations: usize, ceilings: &[u8], i: usize) -> Form
     }
 }
 
+/// A number up to a limit.
 fn up_to(high: u16) -> Form
     ensures { λ r. ⌜ r ≡ Number 0 high ⌝ }
 {

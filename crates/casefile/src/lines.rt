@@ -78,6 +78,7 @@ fn add_line(draft: &mut Draft, kind: Kind, line: &[u8])
     }
 }
 
+/// Reads a line, and adds what it says if it has no fault.
 fn read_line(draft: &mut Draft, number: u32, line: &[u8]) -> Result<(), TextFault>
     requires { ⌜ length (now line) ≤ 65536 ⌝ }
     ensures { λ r. ⌜ answered r (said (now (draft .exit))) ≡ readLine number (said (now (draft .entry))) (now (line .entry)) ⌝ }

@@ -3,6 +3,7 @@ ghost use mathlib.Core.Path.{_≡_};
 ghost use Prim.Native.Nat.{_≤_};
 ghost use lib.ListN.{getD};
 ghost use Rattle.std.specs.Options.{mapped};
+ghost use Rattle.std.specs.shelf.Text.{sameBytes};
 ghost use Rattle.casetext.specs.Text.{number, before, behind};
 ghost use Rattle.casetext.specs.Items.{value};
 
@@ -44,6 +45,13 @@ pub(crate) fn byte_at(bytes: &[u8], i: usize) -> u8
     ensures { λ r. ⌜ r ≡ getD (now (bytes .entry)) i 0 ⌝ }
 {
     if i < bytes.len() { bytes[i] } else { 0 }
+}
+
+/// Whether the field is this word, byte by byte.
+pub(crate) fn is_word(field: &[u8], word: &[u8]) -> bool
+    ensures { λ r. ⌜ r ≡ sameBytes (now (field .entry)) (now (word .entry)) ⌝ }
+{
+    field == word
 }
 
 /// What comes before the first `sep`, and what comes behind it.

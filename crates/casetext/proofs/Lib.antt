@@ -4,4 +4,3 @@ pub mod Numbers
 pub mod Reading
 pub mod Sounds
 pub mod Splits
-pub mod Words

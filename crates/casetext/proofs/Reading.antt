@@ -34,8 +34,3 @@ now-or (Some x) d e = refl
 pub carry : {Y : Type 0} {all items′ : List Y} (items rest rest′ piece : List Y) → all ≡ items ++ rest → rest ≡ piece ++ rest′ → items′ ≡ items ++ piece → all ≡ items′ ++ rest′
 carry items rest rest′ piece inv more push =
     inv ∙ ap (λ x. items ++ x) more ∙ sym (append-assoc items piece rest′) ∙ ap (λ x. x ++ rest′) (sym push)
-
--- four pieces onto nothing
-pub four : {Y : Type 0} {l₀ l₁ l₂ l₃ l₄ : List Y} (a b c d : List Y) → l₀ ≡ [] → l₁ ≡ l₀ ++ a → l₂ ≡ l₁ ++ b → l₃ ≡ l₂ ++ c → l₄ ≡ l₃ ++ d → l₄ ≡ a ++ (b ++ (c ++ d))
-four a b c d e₀ e₁ e₂ e₃ e₄ =
-    e₄ ∙ ap (λ x. x ++ d) (e₃ ∙ ap (λ x. x ++ c) (e₂ ∙ ap (λ x. x ++ b) (e₁ ∙ ap (λ x. x ++ a) e₀))) ∙ simp append-assoc

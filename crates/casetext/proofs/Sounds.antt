@@ -1,7 +1,7 @@
 -- What is read is sound but for the start, so that a text without a fault is refused exactly when it has no start.
 use mathlib.Core.Path.{_≡_, refl, sym, ap, subst, _∙_}
 use mathlib.Core.Bool.{Bool, true, false, cond, _&&_, _||_}
-use mathlib.Core.List.{List, [], _∷_, map}
+use mathlib.Core.List.{List, [], _∷_, _++_, map}
 use mathlib.Core.Logic.{inl, inr}
 use Prim.Native.Nat.{ℕ, zero, suc, _+_, _*_, _≤_, _<_}
 use native.Mathlib.Nat.{add-zero}
@@ -344,7 +344,7 @@ column-in-range c rs h = all-map (λ r. r ≤ maxRank) (rankOf c) rs (all-weaker
 ranks-low : (rs : List Ranks) → All RanksInRange rs → All (λ r. r ≤ maxRank) (rankList rs)
 ranks-low rs h =
     let at = λ (c : OddColour). column-in-range c rs h in
-    all-append _ (column One rs) _ (at One) (all-append _ (column Three rs) _ (at Three) (all-append _ (column Five rs) _ (at Five) (at Seven)))
+    all-append _ (column One rs ++ column Three rs ++ column Five rs) _ (all-append _ (column One rs ++ column Three rs) _ (all-append _ (column One rs) _ (at One) (at Three)) (at Five)) (at Seven)
 
 -- The text
 

@@ -82,7 +82,7 @@ abbrev pub column : OddColour → List Ranks → List ℕ
 column c rs = map (rankOf c) rs
 
 abbrev pub rankList : List Ranks → List ℕ
-rankList rs = column One rs ++ (column Three rs ++ (column Five rs ++ column Seven rs))
+rankList rs = column One rs ++ column Three rs ++ column Five rs ++ column Seven rs
 
 -- location 0 is there, and its invariant holds with all clocks at zero
 abbrev pub starts : Game → Bool
