@@ -14,7 +14,8 @@ ghost use Rattle.clocks.specs.Regions.{some, resting, rising, ranked, zeroed, n
 ghost use Rattle.regions.specs.Code.{parts, flags, proper, isOwn, ceiled, Smalls};
 ghost use Rattle.regions.specs.Standing.{standing, fields};
 
-fn is_ceiled(c: Ceilings) -> bool
+/// Whether no ceiling is too high.
+pub fn is_ceiled(c: Ceilings) -> bool
     ensures { λ r. ⌜ r ≡ ceiled c ⌝ }
 {
     c.x <= HIGHEST_CEILING && c.y <= HIGHEST_CEILING && c.z <= HIGHEST_CEILING
