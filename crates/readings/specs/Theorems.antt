@@ -46,6 +46,6 @@ timed r t n = timing (r .scale) (r .grains .tick) t n
 -- a delay and restarts, the tick clock's if it has reached a unit, are a round of time; a finer scale is one of time
 pub record Timed : Type 0 where
   pub rounds : (d t n : ℕ) (b : Restart) (r s q : Readings)
-    → view s ≡ delayed d (view r) → b .tick ≡ leb (s .scale) (s .grains .tick) → view q ≡ reset (flags b) (view s)
-    → timed q (t + d) (n + cond (b .tick) 1 0) ≡ after (round d) (timed r t n)
+      → view s ≡ delayed d (view r) → b .tick ≡ leb (s .scale) (s .grains .tick) → view q ≡ reset (flags b) (view s)
+      → timed q (t + d) (n + cond (b .tick) 1 0) ≡ after (round d) (timed r t n)
   pub refines : (k t n : ℕ) (r s : Readings) → Some (view s) ≡ refined k (view r) → timed s (k * t) n ≡ after (refine k) (timed r t n)

@@ -23,10 +23,10 @@ ghost use Rattle.readings.specs.View.{clocksOf, view, begun, refined, delayed,
 /// The finest scale, in grains to the unit.
 pub const FINEST_SCALE: u32 = 1_000_000;
 
-/// A scale is refined by a factor from this one ..
+/// The least factor by which a scale is made finer.
 pub const LEAST_FACTOR: u32 = 2;
 
-/// .. to this one.
+/// The largest one.
 pub const LARGEST_FACTOR: u32 = 1_000;
 
 /// What a clock reads at first: 0, or 1, which is past its ceiling, if the game does not have it.
