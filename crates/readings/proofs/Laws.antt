@@ -17,15 +17,16 @@ use Rattle.clocks.proofs.Main.{scales-stand, holds-stand, delays-stand}
 use Rattle.clocks.proofs.Resets.{guards-stand, restarts-stand}
 use Rattle.regions.specs.declared.region.Ceilings.{Ceilings}
 use Rattle.regions.specs.declared.region.Restart.{Restart}
-use Rattle.regions.specs.Code.{tickCeiling, ceiled, limits, flags}
+use Rattle.regions.specs.Code as code
+use Rattle.regions.specs.Code.{tickCeiling, ceiled, flags}
 use Rattle.readings.specs.declared.scaled.Readings.{Readings}
-use Rattle.readings.specs.View.{View, clocksOf, view, fresh, begun, mayRefine, refined, delayed, reset, regionIn}
+use Rattle.readings.specs.View.{View, clocksOf, view, fresh, begun, mayRefine, finerBy, refined, delayed, reset, regionIn}
 use Rattle.readings.specs.Time.{Timing, timing, grown, round, refine, after}
 use Rattle.readings.specs.Theorems.{Begins, Refines, Elapses, Restarts, Ticks, timed, Timed}
-use Rattle.readings.proofs.Limits.{limits-from}
+use Rattle.readings.proofs.Limits.{limits}
 
 scale-some : (r : Readings) → 0 < r .scale
-scale-some r = limits-from (r .ceilings) (r .scale) (r .grains) (r .ok) .some
+scale-some r = limits r .some
 
 -- what there is under a test that may fail
 cond-some : {A : Type 0} (b : Bool) (x y : A) → Some x ≡ cond b (Some y) None → (b ≡ true) × (x ≡ y)
@@ -44,13 +45,13 @@ fresh-spot (suc c) =
 
 pub begins : Begins
 begins c r e =
-    let v = cond-some (ceiled c) (view r) (record { ceilings = c; scale = 1; clocks = map fresh (limits c) }) e .1 in
-    let s : map (λ u. spot 1 (fresh u)) (limits c) ≡ map (λ u. part u (cond (eqb u 0) 1 0) 0) (limits c) = map-ext _ _ fresh-spot (limits c) in
+    let v = cond-some (ceiled c) (view r) (record { ceilings = c; scale = 1; clocks = map fresh (code.limits c) }) e .1 in
+    let s : map (λ u. spot 1 (fresh u)) (code.limits c) ≡ map (λ u. part u (cond (eqb u 0) 1 0) 0) (code.limits c) = map-ext _ _ fresh-spot (code.limits c) in
     ap regionIn v ∙ ap ranked s
 
 pub refines : Refines
 refines k r s e =
-    let t = cond-some (mayRefine k (r .scale)) (view s) (record { ceilings = r .ceilings; scale = k * r .scale; clocks = finer k (clocksOf r) }) e in
+    let t = cond-some (mayRefine k (r .scale)) (view s) (finerBy k (view r)) e in
     ap regionIn (t .1) ∙ scales-stand k (r .scale) (clocksOf r) (may-some k (r .scale) (t .0)) (scale-some r)
 
 pub elapses : Elapses
@@ -102,5 +103,5 @@ times = record { rounds = rounds; refines = refines-timed }
 
     refines-timed : (k t n : ℕ) (r s : Readings) → Some (view s) ≡ refined k (view r) → timed s (k * t) n ≡ after (refine k) (timed r t n)
     refines-timed k t n r s e =
-        let v = cond-some (mayRefine k (r .scale)) (view s) (record { ceilings = r .ceilings; scale = k * r .scale; clocks = finer k (clocksOf r) }) e .1 in
+        let v = cond-some (mayRefine k (r .scale)) (view s) (finerBy k (view r)) e .1 in
         ap₂ (λ D x. timing D x (k * t) n) (ap (λ v. v .scale) v) (ap (λ v. lastReading (v .clocks)) v)

@@ -36,9 +36,11 @@ abbrev pub mayRefine : ℕ → ℕ → Bool
 mayRefine k D = leb 2 k && (leb k 1000 && leb (k * D) 1000000)
 
 -- a finer scale multiplies the scale and the readings
+abbrev pub finerBy : ℕ → View → View
+finerBy k v = record { ceilings = v .ceilings; scale = k * v .scale; clocks = finer k (v .clocks) }
+
 abbrev pub refined : ℕ → View → Option View
-refined k v =
-    cond (mayRefine k (v .scale)) (Some (record { ceilings = v .ceilings; scale = k * v .scale; clocks = finer k (v .clocks) })) None
+refined k v = cond (mayRefine k (v .scale)) (Some (finerBy k v)) None
 
 -- with a delay all readings grow, and are held one unit above their ceilings
 abbrev pub delayed : ℕ → View → View

@@ -75,25 +75,28 @@ impl Readings {
         if scale > FINEST_SCALE {
             return None;
         }
+        let grains = self.grains.finer(factor);
         Some(Readings {
             ceilings: self.ceilings,
             scale,
-            grains: Grains {
-                x: factor * self.grains.x,
-                y: factor * self.grains.y,
-                z: factor * self.grains.z,
-                tick: factor * self.grains.tick,
-            },
+            grains,
         })
     }
 
-    /// What a clock with this ceiling reads after a delay: at most one unit above the ceiling.
+    /// The most that a clock with this ceiling reads: one unit above it.
+    fn most(self, ceiling: u8) -> u32
+        requires { ⌜ ceiling ≤ 15 ⌝ }
+        ensures { λ r. ⌜ r ≡ (ceiling + 1) * self .scale ⌝ }
+    {
+        (ceiling as u32 + 1) * self.scale
+    }
+
+    /// What a clock with this ceiling reads after a delay.
     fn later_reading(self, ceiling: u8, reading: u32, delay: u32) -> u32
         requires { ⌜ ceiling ≤ 15 ⌝ }
         ensures { λ r. ⌜ r ≡ min (reading + delay) ((ceiling + 1) * self .scale) ⌝ }
     {
-        let most = (ceiling as u32 + 1) * self.scale;
-        reading.saturating_add(delay).min(most)
+        reading.saturating_add(delay).min(self.most(ceiling))
     }
 
     /// The readings after a delay of so many grains.

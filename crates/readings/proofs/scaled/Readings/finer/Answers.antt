@@ -1,34 +1,24 @@
-use Prim.Native.Nat.{_*_, _≤_}
-use native.Mathlib.Nat.{mul-le-mul-right}
+use mathlib.Core.Path.{ap}
 use native.Mathlib.Omega.{arith}
-use Rattle.readings.proofs.Limits.{limits-from, finer-fits, finer-readable}
+use Rattle.readings.specs.Grains.{clocksAt}
+use Rattle.readings.proofs.Limits.{limits, scale-fits, finer-fits, finer-readable}
 use Rattle.readings.proofs.scaled.Readings.finer.Needs as need
 
 pub mul-scale : need.mul-scale
-mul-scale c =
-    let l = limits-from (c .args .self .ceilings) (c .args .self .scale) (c .args .self .grains) (c .args .self .ok) in
-    let a : c .args .factor * c .args .self .scale ≤ 1000 * c .args .self .scale = mul-le-mul-right (c .args .self .scale) (c .if-factor-gt-LARGEST-FACTOR .left) in
-    omega arith
+mul-scale c = omega (arith, scale-fits (c .args .factor) (c .args .self) (c .if-factor-gt-LARGEST-FACTOR .left))
 
-pub mul-result : need.mul-result
-mul-result c =
-    let l = limits-from (c .args .self .ceilings) (c .args .self .scale) (c .args .self .grains) (c .args .self .ok) in
-    omega (arith, finer-fits (c .args .factor) (c .args .self .ceilings .x) (c .args .self .scale) (c .args .self .grains .x) (l .x-held) (l .x-low) (c .if-scale-gt-FINEST-SCALE .left))
-
-pub mul-result-2 : need.mul-result-2
-mul-result-2 c =
-    let l = limits-from (c .args .self .ceilings) (c .args .self .scale) (c .args .self .grains) (c .args .self .ok) in
-    omega (arith, finer-fits (c .args .factor) (c .args .self .ceilings .y) (c .args .self .scale) (c .args .self .grains .y) (l .y-held) (l .y-low) (c .if-scale-gt-FINEST-SCALE .left))
-
-pub mul-result-3 : need.mul-result-3
-mul-result-3 c =
-    let l = limits-from (c .args .self .ceilings) (c .args .self .scale) (c .args .self .grains) (c .args .self .ok) in
-    omega (arith, finer-fits (c .args .factor) (c .args .self .ceilings .z) (c .args .self .scale) (c .args .self .grains .z) (l .z-held) (l .z-low) (c .if-scale-gt-FINEST-SCALE .left))
-
-pub mul-result-4 : need.mul-result-4
-mul-result-4 c =
-    let l = limits-from (c .args .self .ceilings) (c .args .self .scale) (c .args .self .grains) (c .args .self .ok) in
-    omega (arith, finer-fits (c .args .factor) 1 (c .args .self .scale) (c .args .self .grains .tick) (l .tick-held) (omega arith) (c .if-scale-gt-FINEST-SCALE .left))
+pub finer-grains-requires : need.finer-grains-requires
+finer-grains-requires c κs =
+    let r = c .args .self in
+    let l = limits r in
+    let fits = finer-fits (c .args .factor) r (c .if-scale-gt-FINEST-SCALE .left) in
+    record {
+      x = fits (r .ceilings .x) (r .grains .x) (l .x-low) (l .x-held);
+      y = fits (r .ceilings .y) (r .grains .y) (l .y-low) (l .y-held);
+      z = fits (r .ceilings .z) (r .grains .z) (l .z-low) (l .z-held);
+      tick = fits 1 (r .grains .tick) (omega arith) (l .tick-held);
+    }
 
 pub ghost-result : need.ghost-result
-ghost-result c = (finer-readable (c .args .factor) (c .args .self .ceilings) (c .args .self .scale) (c .args .self .grains) (c .args .self .ok) (omega arith) (c .if-scale-gt-FINEST-SCALE .left), tt)
+ghost-result c =
+    (finer-readable (c .args .factor) (c .args .self) (c .if-scale-gt-FINEST-SCALE .left) (c .finer-grains .result) (omega arith) (ap (clocksAt (c .args .self .ceilings)) (c .finer-grains .ensures)), tt)

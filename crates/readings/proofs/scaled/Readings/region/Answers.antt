@@ -5,10 +5,8 @@ use Rattle.readings.proofs.scaled.Readings.region.Needs as need
 
 pub unreachable-requires : need.unreachable-requires
 unreachable-requires c κs =
-    read-made (c .args .self .ceilings) (c .args .self .scale) (c .args .self .grains) (c .args .self .ok) (c .region-region .result)
-    (c .region-region .ensures (c .args .self .ceilings) ∙ ap ranked (c .spots .ensures)) (c .in-rest .ensures tt)
+    read-made (c .args .self) (c .region-region .result) (c .region-region .ensures (c .args .self .ceilings) ∙ ap ranked (c .spots .ensures)) (c .in-rest .ensures tt)
 
 pub returns : need.returns
 returns c =
-    read-stands (c .args .self .ceilings) (c .args .self .scale) (c .args .self .grains) (c .args .self .ok) (c .region-region .result)
-    (c .region-region .ensures (c .args .self .ceilings) ∙ ap ranked (c .spots .ensures)) (c .in-Some .clocks) (c .in-Some .ensures tt)
+    read-stands (c .args .self) (c .region-region .result) (c .region-region .ensures (c .args .self .ceilings) ∙ ap ranked (c .spots .ensures)) (c .in-Some .clocks) (c .in-Some .ensures tt)

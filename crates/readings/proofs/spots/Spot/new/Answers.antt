@@ -1,11 +1,11 @@
 use native.Mathlib.Omega.{arith}
 use native.Mathlib.Nat.{div-le-of-le-mul}
 use Prim.Native.Nat.{_/_, _≤_}
-use Rattle.readings.proofs.Limits.{ceiling-fits}
+use Rattle.readings.proofs.Limits.{units-fit}
 use Rattle.readings.proofs.spots.Spot.new.Needs as need
 
 pub mul-ceiling : need.mul-ceiling
-mul-ceiling c = omega (arith, ceiling-fits (c .args .ceiling) (c .args .scale) (c .pre .low) (c .pre .fine))
+mul-ceiling c = omega (arith, units-fit (c .args .ceiling) (c .args .scale) (c .pre .low) (c .pre .fine))
 
 pub cast-result : need.cast-result
 cast-result c =
