@@ -7,7 +7,7 @@ use Prim.Native.Nat.{ℕ, _+_, _*_, _≤_, _<_}
 use native.Mathlib.Omega.{arith}
 use native.Mathlib.Nat.{mul-le-mul-left, mul-lt-mul-of-pos-left, mul-add, add-mul, mul-assoc, mul-left-comm, mul-one, mul-pos}
 use Rattle.std.proofs.shelf.Tests.{cases-bool, leb-true, leb-false, cond-true, cond-false}
-use Rattle.readings.specs.Time.{Event, round, refine, Timing, timing, grown, rings, after, afterAll, factor, factors, Finer, since, Lasts, Stops}
+use Rattle.readings.specs.Time.{Event, round, refine, Timing, timing, grown, rings, after, afterAll, scaling, scalings, Finer, since, Lasts, Stops}
 
 -- the time of the ticks and the tick clock's reading are within the time that went by
 abbrev Within : Timing → Type 0
@@ -35,7 +35,7 @@ pub record Short (s : Timing) : Type 0 where
   pub unit : 0 < s .scale
   pub below : s .reading < s .scale
 
-short-after : (e : Event) (s : Timing) → 0 < factor e → Short s → Short (after e s)
+short-after : (e : Event) (s : Timing) → 0 < scaling e → Short s → Short (after e s)
 short-after (round d) s f h = record { unit = h .unit; below = at (rings d s) refl }
   where
     at : (b : Bool) → rings d s ≡ b → cond b 0 (grown d s) < s .scale
@@ -54,7 +54,7 @@ ticks-more (refine k ∷ es) s = ticks-more es (after (refine k) s)
 
 -- while no round ticks, the tick clock's reading grows with time
 grows : (es : List Event) (s : Timing) → Finer es → Short s → afterAll es s .ticks ≡ s .ticks
-    → afterAll es s .time + factors es * s .reading ≡ factors es * s .time + afterAll es s .reading
+    → afterAll es s .time + scalings es * s .reading ≡ scalings es * s .time + afterAll es s .reading
 grows [] s f h e = omega arith
 grows (round d ∷ es) s f h e = elim (cases-bool (rings d s)) [
   | inl t ↦
@@ -64,7 +64,7 @@ grows (round d ∷ es) s f h e = elim (cases-bool (rings d s)) [
       absurd w
   | inr t ↦
       let q = after (round d) s in
-      let k = factors es in
+      let k = scalings es in
       let none : _≡_ {A = ℕ} (cond (rings d s) 1 0) 0 = cond-false (rings d s) 1 0 t in
       let same : s .ticks + cond (rings d s) 1 0 ≡ s .ticks = omega arith in
       let small = leb-false (s .scale) (grown d s) t in
@@ -74,7 +74,7 @@ grows (round d ∷ es) s f h e = elim (cases-bool (rings d s)) [
 ]
 grows (refine k ∷ es) s f h e =
     let m = grows es (after (refine k) s) (f .1) (short-after (refine k) s (f .0) h) e in
-    omega (arith, mul-assoc (factors es) k (s .reading), mul-assoc (factors es) k (s .time))
+    omega (arith, mul-assoc (scalings es) k (s .reading), mul-assoc (scalings es) k (s .time))
 
 pub stops : Stops
 stops D es fs z f g e =

@@ -39,11 +39,11 @@ Restarts = (b : Restart) (r s : Readings) → view s ≡ reset (flags b) (view r
 abbrev pub Ticks : Type 0
 Ticks = (r : Readings) (q : Clocks) → standing q ≡ regionIn (view r) → leb (r .scale) (r .grains .tick) ≡ ltb 0 (q .region .tick .whole)
 
--- readings, with the time gone by and the ticks
+-- the time that readings keep, with t grains gone by and n ticks
 abbrev pub timed : Readings → ℕ → ℕ → Timing
 timed r t n = timing (r .scale) (r .grains .tick) t n
 
--- a delay and restarts, the tick clock's if it has reached a unit, are a round of time; a finer scale is one of time
+-- a delay and restarts, the tick clock's if it has reached a unit, are a round of time; a finer scale refines it
 pub record Timed : Type 0 where
   pub rounds : (d t n : ℕ) (b : Restart) (r s q : Readings)
       → view s ≡ delayed d (view r) → b .tick ≡ leb (s .scale) (s .grains .tick) → view q ≡ reset (flags b) (view s)

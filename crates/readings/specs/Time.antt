@@ -39,16 +39,16 @@ afterAll [] s = s
 afterAll (e ∷ es) s = afterAll es (after e s)
 
 -- how much finer the scale has become
-abbrev pub factor : Event → ℕ
-factor (round d) = 1
-factor (refine k) = k
+abbrev pub scaling : Event → ℕ
+scaling (round d) = 1
+scaling (refine k) = k
 
-abbrev pub factors : List Event → ℕ
-factors [] = 1
-factors (e ∷ es) = factors es * factor e
+abbrev pub scalings : List Event → ℕ
+scalings [] = 1
+scalings (e ∷ es) = scalings es * scaling e
 
 abbrev pub Finer : List Event → Type 0
-Finer es = All (λ e. 0 < factor e) es
+Finer es = All (λ e. 0 < scaling e) es
 
 -- from the beginning, at D grains to the unit
 abbrev pub since : ℕ → List Event → Timing
@@ -62,4 +62,4 @@ Lasts = (D : ℕ) (es : List Event) → since D es .ticks * since D es .scale �
 abbrev pub Stops : Type 0
 Stops =
     (D : ℕ) (es fs : List Event) → 0 < D → Finer es → Finer fs → afterAll fs (since D es) .ticks ≡ since D es .ticks
-    → afterAll fs (since D es) .time < factors fs * since D es .time + afterAll fs (since D es) .scale
+    → afterAll fs (since D es) .time < scalings fs * since D es .time + afterAll fs (since D es) .scale

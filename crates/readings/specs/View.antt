@@ -12,6 +12,7 @@ use Rattle.regions.specs.Code.{limits, ceiled}
 use Rattle.readings.specs.declared.scaled.Readings.{Readings}
 use Rattle.readings.specs.Grains.{clocksAt}
 
+-- what readings tell: ceilings, grains to the unit, and clocks, the tick clock last
 pub record View : Type 0 where
   pub ceilings : Ceilings
   pub scale : ℕ

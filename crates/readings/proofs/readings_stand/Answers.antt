@@ -1,4 +1,3 @@
-use mathlib.Core.Path.{refl}
 use Rattle.readings.proofs.Laws.{begins, refines, elapses, restarts, ticks, times}
 use Rattle.readings.proofs.Times.{lasts, stops}
 use Rattle.readings.proofs.readings_stand.Needs as need
@@ -6,7 +5,6 @@ use Rattle.readings.proofs.readings_stand.Needs as need
 pub returns : need.returns
 returns c =
     record {
-      answer = refl;
       begins = begins;
       refines = refines;
       elapses = elapses;

@@ -5,13 +5,13 @@ use Rattle.readings.proofs.Limits.{limits, scale-fits, finer-fits, finer-reada
 use Rattle.readings.proofs.scaled.Readings.finer.Needs as need
 
 pub mul-scale : need.mul-scale
-mul-scale c = omega (arith, scale-fits (c .args .factor) (c .args .self) (c .if-factor-gt-LARGEST-FACTOR .left))
+mul-scale c = omega (arith, scale-fits (c .args .factor) (c .args .self) (omega arith))
 
 pub finer-grains-requires : need.finer-grains-requires
 finer-grains-requires c κs =
     let r = c .args .self in
     let l = limits r in
-    let fits = finer-fits (c .args .factor) r (c .if-scale-gt-FINEST-SCALE .left) in
+    let fits = finer-fits (c .args .factor) r (omega arith) in
     record {
       x = fits (r .ceilings .x) (r .grains .x) (l .x-low) (l .x-held);
       y = fits (r .ceilings .y) (r .grains .y) (l .y-low) (l .y-held);
@@ -21,4 +21,4 @@ finer-grains-requires c κs =
 
 pub ghost-result : need.ghost-result
 ghost-result c =
-    (finer-readable (c .args .factor) (c .args .self) (c .if-scale-gt-FINEST-SCALE .left) (c .finer-grains .result) (omega arith) (ap (clocksAt (c .args .self .ceilings)) (c .finer-grains .ensures)), tt)
+    (finer-readable (c .args .factor) (c .args .self) (omega arith) (c .finer-grains .result) (omega arith) (ap (clocksAt (c .args .self .ceilings)) (c .finer-grains .ensures)), tt)
