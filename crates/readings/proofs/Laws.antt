@@ -1,27 +1,23 @@
 -- The laws of readings at a scale.
-use mathlib.Core.Path.{_≡_, refl, sym, ap, ap₂, _∙_, subst}
+use mathlib.Core.Path.{_≡_, refl, sym, ap, ap₂, _∙_}
 use mathlib.Core.List.{List, [], _∷_, map}
 use mathlib.Core.Bool.{Bool, true, false, cond}
-use mathlib.Core.Logic.{inl, inr}
-use Prim.Native.Nat.{ℕ, zero, suc, _+_, _*_, _≤_, _<_, min}
+use Prim.Native.Nat.{ℕ, zero, suc, _+_, _*_, _<_}
 use native.Mathlib.Omega.{arith}
 use lib.Dec.{leb, ltb, eqb}
-use Rattle.std.specs.declared.option.Option.{Option}
 use Rattle.std.specs.declared.option.Option.the-variants.{Some, None}
-use Rattle.std.proofs.shelf.Tests.{le-ltb, cases-bool}
+use Rattle.std.proofs.shelf.Tests.{le-ltb}
 use Rattle.std.proofs.shelf.Ways.{tells}
-use Rattle.clocks.specs.Regions.{Part, Clock, clock, part, spot, seen, classed, ranked, regionOf, waits, later, finer}
-use Rattle.clocks.specs.Theorems.{held}
+use Rattle.clocks.specs.Regions.{Part, Clock, clock, part, spot, seen, ranked, regionOf, later}
 use Rattle.clocks.proofs.Lists.{map-ext}
 use Rattle.clocks.proofs.Main.{scales-stand, holds-stand, delays-stand}
 use Rattle.clocks.proofs.Resets.{guards-stand, restarts-stand}
-use Rattle.regions.specs.declared.region.Ceilings.{Ceilings}
 use Rattle.regions.specs.declared.region.Restart.{Restart}
 use Rattle.regions.specs.Code as code
 use Rattle.regions.specs.Code.{tickCeiling, ceiled, flags}
 use Rattle.readings.specs.declared.scaled.Readings.{Readings}
-use Rattle.readings.specs.View.{View, clocksOf, view, fresh, begun, mayRefine, finerBy, refined, delayed, reset, regionIn}
-use Rattle.readings.specs.Time.{Timing, timing, grown, round, refine, after}
+use Rattle.readings.specs.View.{clocksOf, view, fresh, mayRefine, finerBy, refined, delayed, reset, regionIn}
+use Rattle.readings.specs.Time.{timing, grown, round, refine, after}
 use Rattle.readings.specs.Theorems.{Begins, Refines, Elapses, Restarts, Ticks, timed, Timed}
 use Rattle.readings.proofs.Limits.{limits}
 

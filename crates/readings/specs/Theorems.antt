@@ -5,7 +5,7 @@ use mathlib.Core.List.{map}
 use Prim.Native.Nat.{ℕ, _+_, _*_}
 use lib.Dec.{leb, ltb, eqb}
 use Rattle.std.specs.declared.option.Option.the-variants.{Some}
-use Rattle.clocks.specs.Regions.{Part, part, regionOf, waits, later, ranked, zeroed}
+use Rattle.clocks.specs.Regions.{part, regionOf, waits, later, ranked, zeroed}
 use Rattle.regions.specs.declared.region.Ceilings.{Ceilings}
 use Rattle.regions.specs.declared.region.Restart.{Restart}
 use Rattle.regions.specs.declared.standing.Clocks.{Clocks}
