@@ -1,19 +1,17 @@
 -- Clocks in the region of their readings.
 use mathlib.Core.Path.{_≡_, sym, ap, _∙_, subst}
-use mathlib.Core.Bool.{true, cond}
+use mathlib.Core.Bool.{true, false}
 use Prim.Native.Nat.{ℕ}
 use native.Mathlib.Omega.{arith}
-use Rattle.std.specs.declared.option.Option.{Option}
-use Rattle.std.specs.declared.option.Option.the-variants.{Some, None}
-use Rattle.std.specs.Options.{mapped}
-use Rattle.std.proofs.shelf.Tests.{and-parts, and-from, cond-true}
+use Rattle.std.specs.declared.option.Option.the-variants.{None}
+use Rattle.std.specs.Options.{isSome}
+use Rattle.std.proofs.shelf.Tests.{and-parts, and-from}
 use Rattle.clocks.specs.Regions.{Own}
 use Rattle.clocks.proofs.Main.{owned-stand}
-use Rattle.regions.specs.declared.region.Ceilings.{Ceilings}
 use Rattle.regions.specs.declared.region.Region.{Region}
 use Rattle.regions.specs.declared.standing.Clocks.{Clocks}
 use Rattle.regions.specs.Code.{parts, ceiled, isOwn, proper}
-use Rattle.regions.specs.Standing.{fields, standing}
+use Rattle.regions.specs.Standing.{standing}
 use Rattle.regions.proofs.Owning.{own-to}
 use Rattle.readings.specs.declared.scaled.Readings.{Readings}
 use Rattle.readings.specs.View.{clocksOf, view, regionIn}
@@ -25,15 +23,9 @@ module _ (r : Readings) (q : Region) (e : parts (r .ceilings) q ≡ regionIn (vi
       let own : Own (parts (r .ceilings) q) = subst Own (sym e) (owned-stand (r .scale) (clocksOf r) (limits r .some)) in
       and-from (ceiled (r .ceilings)) (isOwn (parts (r .ceilings) q)) (and-parts (ceiled (r .ceilings)) _ (r .ok) .0) (own-to (parts (r .ceilings) q) own)
 
-  made : (o : Option Clocks) → mapped fields o ≡ cond (proper (r .ceilings) q) (Some (r .ceilings, q)) None → mapped fields o ≡ Some (r .ceilings, q)
-  made o i = i ∙ cond-true (proper (r .ceilings) q) (Some (r .ceilings, q)) None read-proper
-
   -- so there are clocks that stand in it
-  pub read-made : mapped fields None ≡ cond (proper (r .ceilings) q) (Some (r .ceilings, q)) None → ⊥
-  read-made i = let f = made None i in let z : _≡_ {A = ℕ} 0 1 = cc in omega arith
+  pub read-made : isSome {T = Clocks} None ≡ proper (r .ceilings) q → ⊥
+  read-made i = let f : false ≡ true = i ∙ read-proper in let z : _≡_ {A = ℕ} 0 1 = cc in omega arith
 
-  pub read-stands : (k : Clocks) → mapped fields (Some k) ≡ cond (proper (r .ceilings) q) (Some (r .ceilings, q)) None → standing k ≡ regionIn (view r)
-  read-stands k i =
-      let f = made (Some k) i in
-      let s : fields k ≡ (r .ceilings, q) = cc in
-      ap (λ (f : Ceilings × Region). parts (f .0) (f .1)) s ∙ e
+  pub read-stands : (k : Clocks) → (k .ceilings ≡ r .ceilings) × (k .region ≡ q) → standing k ≡ regionIn (view r)
+  read-stands k s = ap (λ c. parts c (k .region)) (s .0) ∙ (ap (parts (r .ceilings)) (s .1) ∙ e)

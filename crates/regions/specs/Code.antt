@@ -1,10 +1,8 @@
 -- The program's regions as lists of clocks, the tick clock last.
 use mathlib.Core.Bool.{Bool, true, _&&_, _||_}
 use mathlib.Core.List.{List, [], _∷_}
-use Prim.Native.Nat.{ℕ, _+_, _≤_, _<_}
+use Prim.Native.Nat.{ℕ, _+_, _≤_}
 use lib.Dec.{leb, ltb, eqb}
-use Rattle.std.specs.declared.option.Option.{Option}
-use Rattle.std.specs.declared.option.Option.the-variants.{Some, None}
 use Rattle.clocks.specs.Regions.{Part, part, seen, upto, top}
 use Rattle.regions.specs.declared.region.ClockRegion.{ClockRegion}
 use Rattle.regions.specs.declared.region.Ceilings.{Ceilings}

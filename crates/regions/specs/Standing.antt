@@ -1,13 +1,8 @@
 -- Clocks that stand in a region of theirs, as a list of clocks with the tick clock last.
 use mathlib.Core.List.{List}
 use Rattle.clocks.specs.Regions.{Part}
-use Rattle.regions.specs.declared.region.Ceilings.{Ceilings}
-use Rattle.regions.specs.declared.region.Region.{Region}
 use Rattle.regions.specs.declared.standing.Clocks.{Clocks}
 use Rattle.regions.specs.Code.{parts}
-
-abbrev pub fields : Clocks → Ceilings × Region
-fields s = (s .ceilings, s .region)
 
 abbrev pub standing : Clocks → List Part
 standing s = parts (s .ceilings) (s .region)

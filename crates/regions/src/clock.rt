@@ -1,12 +1,14 @@
-//! One clock's part in a region, and the classes of all.
+//! Ceilings, one clock's part in a region, and the classes of all.
+use crate::region::Ceilings;
 use crate::region::ClockRegion;
+use crate::region::HIGHEST_CEILING;
 use crate::region::Region;
 ghost use mathlib.Core.Path.{_≡_};
 ghost use mathlib.Core.Bool.{cond};
 ghost use Prim.Native.Nat.{_+_, _≤_};
 ghost use lib.Dec.{eqb};
 ghost use Rattle.clocks.specs.Regions.{resting, rising, leave, seen, upto, rank, top};
-ghost use Rattle.regions.specs.Code.{partOf, unceiled, within, Small};
+ghost use Rattle.regions.specs.Code.{partOf, unceiled, within, ceiled, Small};
 
 impl ClockRegion {
     /// Whether a clock with this ceiling can stand here.
@@ -78,6 +80,15 @@ impl ClockRegion {
         } else {
             self
         }
+    }
+}
+
+impl Ceilings {
+    /// Whether no ceiling is above the highest.
+    pub fn are_allowed(self) -> bool
+        ensures { λ r. ⌜ r ≡ ceiled self ⌝ }
+    {
+        self.x <= HIGHEST_CEILING && self.y <= HIGHEST_CEILING && self.z <= HIGHEST_CEILING
     }
 }
 

@@ -7,7 +7,7 @@ pub const HIGHEST_CEILING: u8 = 15;
 pub const TICK_CEILING: u8 = 1;
 
 /// Where one clock stands: its whole part, and its class, which orders the fractions.
-#[derive(Clone, Copy, PartialEq, Eq)]
+#[derive(Clone, Copy)]
 pub struct ClockRegion {
     pub whole: u8,
     pub class: u8,
@@ -15,7 +15,7 @@ pub struct ClockRegion {
 
 /// Where all clocks stand. A clock that the game does not have has ceiling 0 and stands past it,
 /// at whole part 1.
-#[derive(Clone, Copy, PartialEq, Eq)]
+#[derive(Clone, Copy)]
 pub struct Region {
     pub x: ClockRegion,
     pub y: ClockRegion,

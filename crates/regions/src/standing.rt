@@ -16,12 +16,14 @@ pub struct Clocks {
 }
 
 impl Clocks {
+    /// The clocks' ceilings.
     pub fn ceilings(self) -> Ceilings
         ensures { λ r. ⌜ r ≡ self .ceilings ⌝ }
     {
         self.ceilings
     }
 
+    /// Where the clocks stand.
     pub fn region(self) -> Region
         ensures { λ r. ⌜ r ≡ self .region ⌝ }
     {

@@ -7,7 +7,6 @@ use regions::region::Ceilings;
 use regions::region::Restart;
 use regions::region::TICK_CEILING;
 use regions::standing::Clocks;
-use regions::standing::steps::is_ceiled;
 ghost use mathlib.Core.Path.{_≡_};
 ghost use mathlib.Core.Bool.{cond};
 ghost use mathlib.Core.List.{map};
@@ -48,7 +47,7 @@ impl Readings {
     pub fn new(ceilings: Ceilings) -> Option<Readings>
         ensures { λ r. ⌜ mapped view r ≡ begun ceilings ⌝ }
     {
-        if !is_ceiled(ceilings) {
+        if !ceilings.are_allowed() {
             return None;
         }
         Some(Readings {

@@ -1,25 +1,17 @@
 //! From region to region.
 use super::Clocks;
 use crate::region::Ceilings;
-use crate::region::HIGHEST_CEILING;
 use crate::region::Region;
 use crate::region::Restart;
 use crate::region::TICK_CEILING;
 ghost use mathlib.Core.Path.{_≡_};
-ghost use mathlib.Core.Bool.{cond};
+ghost use mathlib.Core.Bool.{true};
 ghost use lib.Dec.{ltb};
-ghost use Rattle.std.specs.Options.{mapped};
-ghost use Rattle.std.specs.declared.option.Option.the-variants.{Some, None};
+ghost use Rattle.std.specs.Options.{mapped, isSome};
+ghost use Rattle.std.specs.Slices.{found};
 ghost use Rattle.clocks.specs.Regions.{some, resting, rising, ranked, zeroed, next, waits};
-ghost use Rattle.regions.specs.Code.{parts, flags, proper, isOwn, ceiled, Smalls};
-ghost use Rattle.regions.specs.Standing.{standing, fields};
-
-/// Whether no ceiling is too high.
-pub fn is_ceiled(c: Ceilings) -> bool
-    ensures { λ r. ⌜ r ≡ ceiled c ⌝ }
-{
-    c.x <= HIGHEST_CEILING && c.y <= HIGHEST_CEILING && c.z <= HIGHEST_CEILING
-}
+ghost use Rattle.regions.specs.Code.{parts, flags, proper, isOwn, Smalls};
+ghost use Rattle.regions.specs.Standing.{standing};
 
 /// Whether whole parts and classes are those of a region of clocks with these ceilings.
 fn is_own(c: Ceilings, region: Region) -> bool
@@ -36,9 +28,10 @@ fn is_own(c: Ceilings, region: Region) -> bool
 impl Clocks {
     /// Clocks with these ceilings that stand in this region, if it is one of theirs.
     pub fn new(ceilings: Ceilings, region: Region) -> Option<Clocks>
-        ensures { λ r. ⌜ mapped fields r ≡ cond (proper ceilings region) (Some (ceilings, region)) None ⌝ }
+        ensures test { λ r. ⌜ isSome r ≡ proper ceilings region ⌝ }
+        ensures fields { λ r. ⌜ found r (λ s. (s .ceilings ≡ ceilings) × (s .region ≡ region)) ⌝ }
     {
-        if is_ceiled(ceilings) && is_own(ceilings, region) {
+        if ceilings.are_allowed() && is_own(ceilings, region) {
             Some(Clocks { ceilings, region })
         } else {
             None
@@ -52,6 +45,7 @@ impl Clocks {
         self.region.tick.whole > 0
     }
 
+    /// Whether some clock is not past, at class 0.
     fn some_rest(self) -> bool
         ensures { λ r. ⌜ r ≡ some resting (standing self) ⌝ }
     {
@@ -62,6 +56,7 @@ impl Clocks {
             || at.tick.is_resting(TICK_CEILING)
     }
 
+    /// Whether some clock is below its ceiling, at class 0.
     fn some_rise(self) -> bool
         ensures { λ r. ⌜ r ≡ some rising (standing self) ⌝ }
     {
@@ -72,6 +67,7 @@ impl Clocks {
             || at.tick.is_rising(TICK_CEILING)
     }
 
+    /// The next region, if there is one.
     fn next_region(self) -> Option<Region>
         requires { ⌜ Smalls (self .ceilings) (self .region) ⌝ }
         ensures { λ r. ⌜ mapped (parts (self .ceilings)) r ≡ next (standing self) ⌝ }
@@ -120,6 +116,7 @@ impl Clocks {
         Some(clocks)
     }
 
+    /// The region once these clocks have gone back to zero, before the classes close up.
     fn zeroed_region(self, restart: Restart) -> Region
         ensures { λ r. ⌜ parts (self .ceilings) r ≡ zeroed (flags restart) (standing self) ⌝ }
     {
@@ -132,8 +129,10 @@ impl Clocks {
         }
     }
 
+    /// The region once these clocks have gone back to zero.
     fn restarted_region(self, restart: Restart) -> Region
-        ensures { λ r. ⌜ parts (self .ceilings) r ≡ ranked (zeroed (flags restart) (standing self)) ⌝ }
+        ensures own { λ r. ⌜ proper (self .ceilings) r ≡ true ⌝ }
+        ensures is { λ r. ⌜ parts (self .ceilings) r ≡ ranked (zeroed (flags restart) (standing self)) ⌝ }
     {
         let at = self.zeroed_region(restart);
         Region {

@@ -1,0 +1,3 @@
+//! Timed games as arenas.
+pub mod timed_game;
+mod zones;
