@@ -1,0 +1,5 @@
+pub mod Grains
+pub mod Spotted
+pub mod View
+pub mod Time
+pub mod Theorems
