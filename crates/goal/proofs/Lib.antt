@@ -1,0 +1,4 @@
+pub mod Automata
+pub mod Laws
+pub mod Passes
+pub mod Runs

@@ -1,0 +1,4 @@
+pub mod Form
+pub mod Automaton
+pub mod Product
+pub mod Runs

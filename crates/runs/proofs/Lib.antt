@@ -1,0 +1,4 @@
+pub mod Counts
+pub mod Ranked
+pub mod Walks
+pub mod Endlessly

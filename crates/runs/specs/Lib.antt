@@ -1,0 +1,3 @@
+pub mod Walk
+pub mod Runs
+pub mod Wins
