@@ -1,52 +1,51 @@
-//! Reads a case from standard input and writes the verdict on it.
+//! Reads a case from standard input and writes what is asked about its plan.
+mod checking;
+mod input;
+mod ranking;
 mod sentences;
 
-use casefile::room::Room;
+use std::env;
 use std::io;
-use std::io::Read;
-use verdict::judge::judge;
-use verdict::lines::VerdictDisplay;
-use verdict::verdict::Verdict;
 
-/// One byte more than a text may have: enough to see that it is too long.
-const ENOUGH: u64 = 65_537;
-
-fn read_text(rt: &LibcRuntime) -> io::Result<Vec<u8>> {
-    let mut text = Vec::new(rt.alloc());
-    rt.stdin().take(ENOUGH).read_to_end(&mut text)?;
-    Ok(text)
+/// What is asked about the plan.
+enum Command {
+    Check,
+    Rank,
+    Unknown,
 }
 
-/// The line in which the first row of a readable text stands: rows are its last lines.
-fn first_row_line(text: &[u8]) -> u32 {
-    let mut line: u32 = 1;
-    let mut begins = true;
-    for byte in text {
-        if begins && *byte == b'r' {
-            return line;
-        }
-        begins = *byte == b'\n';
-        if begins {
-            line = line.saturating_add(1);
-        }
-    }
-    line
-}
-
-/// Tells a refusal in a sentence on standard error.
-fn explain(rt: &LibcRuntime, verdict: Verdict, text: &[u8]) -> io::Result<()> {
-    let sentence = match verdict {
-        Verdict::Accepted(_) => return Ok(()),
-        Verdict::Unreadable(fault) => sentences::of_text(rt.alloc(), fault)?,
-        Verdict::Refused(fault) => sentences::of_table(rt.alloc(), fault, first_row_line(text))?,
+fn asked(rt: &LibcRuntime) -> io::Result<Command> {
+    let mut args = env::args(rt)?;
+    let _program = args.next();
+    let Some(word) = args.next() else {
+        return Ok(Command::Check);
     };
-    eprintln!(rt, "refused: {sentence}")
+    Ok(
+        match word.as_str() {
+            "check" => Command::Check,
+            "rank" => Command::Rank,
+            _ => Command::Unknown,
+        },
+    )
+}
+
+fn usage(rt: &LibcRuntime) -> io::Result<()> {
+    eprintln!(rt, "usage: plancheck [check|rank] < CASE")?;
+    eprintln!(
+        rt,
+        "  check   whether the plan wins with the ranks of the case (this is also done without a word)"
+    )?;
+    eprintln!(
+        rt,
+        "  rank    the smallest ranks with which the plan wins, or a losing loop"
+    )?;
+    Err(io::Error::from(io::ErrorKind::InvalidInput))
 }
 
 fn main(rt: LibcRuntime) -> io::Result<()> {
-    let text = read_text(&rt)?;
-    let room = Room::take(rt.alloc())?;
-    let verdict = judge(room, text.as_slice());
-    rt.println(verdict)?;
-    explain(&rt, verdict, text.as_slice())
+    match asked(&rt)? {
+        Command::Check => checking::check_input(&rt),
+        Command::Rank => ranking::rank_input(&rt),
+        Command::Unknown => usage(&rt),
+    }
 }

@@ -5,7 +5,7 @@ use std::alloc::Global;
 use table::fault::Fault;
 
 /// What is wrong with a text.
-pub fn of_text(heap: Global, fault: TextFault) -> Result<String, AllocError> {
+pub(crate) fn of_text(heap: Global, fault: TextFault) -> Result<String, AllocError> {
     match fault {
         TextFault::TooLong => format!(heap, "the text has more than 65,536 bytes"),
         TextFault::UnknownKind { line } => {
@@ -51,8 +51,24 @@ pub fn of_text(heap: Global, fault: TextFault) -> Result<String, AllocError> {
     }
 }
 
+/// What a losing loop means: at colour 1 time stands still, and above it ticks come on and on.
+fn losing_loop(heap: Global, length: u16, colour: u8) -> Result<String, AllocError> {
+    if colour == 1 {
+        format!(
+            heap,
+            "the other side can keep the plan in a loop of {length} rounds without a tick in which we move again and again: time stops, and we are to blame"
+        )
+    } else {
+        let priority = colour.saturating_sub(2);
+        format!(
+            heap,
+            "the other side can keep the plan in a loop of {length} rounds in which time goes on and the largest priority is {priority}, which is odd"
+        )
+    }
+}
+
 /// What is wrong with a table whose row 0 stands in line `first` of its text.
-pub fn of_table(heap: Global, fault: Fault, first: u32) -> Result<String, AllocError> {
+pub(crate) fn of_table(heap: Global, fault: Fault, first: u32) -> Result<String, AllocError> {
     let line = first.saturating_add(fault.place());
     match fault {
         Fault::TooManyRows => format!(heap, "the table has more than 1,024 rows"),
@@ -86,6 +102,7 @@ pub fn of_table(heap: Global, fault: Fault, first: u32) -> Result<String, AllocE
                 "row {row} (line {line}), outcome {outcome}: the ranks break their rule"
             )
         }
+        Fault::LosingLoop { length, colour } => losing_loop(heap, length, colour),
         Fault::NoRowHere => format!(heap, "the walk stands where no row is"),
         Fault::IllegalHere => format!(heap, "the move of the walk's row is not legal there"),
         Fault::NoOutcome => format!(heap, "the row's move has no outcome of this number"),
