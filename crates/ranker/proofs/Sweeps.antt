@@ -42,9 +42,11 @@ module _ (arcs : List Arc) (p : ℕ) (forward : Bool) (was : List ℕ) where
   to-lift ranks ranks′ step s (Some t) x less b = (b, omega (arith, x .1))
 
   pub to-all : (ranks : List ℕ) (step : ℕ) (last : Option ℕ) → length arcs ≤ step → Below ranks → SweptTo ranks step last → Swept arcs p was ranks last
-  to-all ranks step None long below x =
-      (x .0, λ k b.
+  to-all ranks step None long below x = (
+    x .0,
+    λ k b.
         let s = place-step forward (length arcs) k b in
         let F : ℕ → Type 0 = λ j. Met p ranks (arcAt arcs j) in
-        subst F (s .2) (x .1 (s .0) (omega (arith, s .1))))
+        subst F (s .2) (x .1 (s .0) (omega (arith, s .1))),
+  )
   to-all ranks step (Some s) long below x = (x .0, x .1, λ _. below)

@@ -55,13 +55,7 @@ fn place_at(forward: bool, count: usize, step: usize) -> usize
 
 /// Lifts along every arc once, from the first on or from the last, and tells which row was lifted last. It stops at once
 /// where a rank has come to the number of rows.
-fn sweep(
-    arcs: &[Arc],
-    colour: u8,
-    forward: bool,
-    ranks: &mut [u16],
-    by: &mut [u32],
-) -> Option<u16>
+fn sweep(arcs: &[Arc], colour: u8, forward: bool, ranks: &mut [u16], by: &mut [u32]) -> Option<u16>
     requires lengths { ⌜ length (now arcs) ≤ 2 ^ 24 ⌝ ∗ ⌜ length (now ranks) ≤ 1024 ⌝ ∗ ⌜ length (now ranks) ≤ length (now by) ⌝ }
     requires told { ⌜ Told (length (now ranks)) (now arcs) ⌝ }
     requires lifts { ⌜ Lifts (now arcs) colour (now ranks) (now by) ⌝ }
