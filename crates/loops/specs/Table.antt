@@ -16,7 +16,7 @@ use Rattle.table.specs.Colours.{colourOf}
 use Rattle.table.specs.Rows.{rowAfter, outcomesOf}
 use Rattle.table.specs.Check.{faults, checked}
 use Rattle.loops.specs.declared.pair.Pair.{Pair}
-use Rattle.loops.specs.Graph.{Graph, Losing}
+use Rattle.loops.specs.Graph.{Graph, Losing, NoLoop, Keeps}
 
 -- what f tells of a thing, and 0 where there is none
 abbrev pub told : {X : Type 0} → (X → ℕ) → Option X → ℕ
@@ -56,3 +56,7 @@ OneOf A B = (A ⊎ B) × (A → B → ⊥)
 -- a well-formed table is accepted with some ranks, or else it has a losing loop
 abbrev pub Decided : {P : Type 0} → Meaning P → List (Row P) → Type 0
 Decided m rows = WellFormed m rows → OneOf (Accepted m rows) (Loses m rows)
+
+-- ranks that keep the rule for a colour rule out its losing loops
+abbrev pub Excluded : Graph → Type 0
+Excluded g = (p : ℕ) (rank : ℕ → ℕ) → Keeps g p rank → NoLoop g p

@@ -3,9 +3,10 @@ pub mod pair;
 
 use arena::arena::Arena;
 use table::row::Row;
-ghost use Rattle.loops.specs.Table.{Decided};
+ghost use Rattle.loops.specs.Table.{graphOf, Decided, Excluded};
 
-/// The law of losing loops, over every arena.
+/// The laws of losing loops, over every arena.
 pub fn loops_decide<A: Arena>(arena: &A, rows: &[Row<A::Position>])
-    ensures { λ _. ⌜ Decided (A·Arena .meaning (now (arena .entry))) (now (rows .entry)) ⌝ }
+    ensures excluded { λ _. ⌜ Excluded (graphOf (A·Arena .meaning (now (arena .entry))) (now (rows .entry))) ⌝ }
+    ensures decided { λ _. ⌜ Decided (A·Arena .meaning (now (arena .entry))) (now (rows .entry)) ⌝ }
 {}

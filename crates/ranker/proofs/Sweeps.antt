@@ -1,42 +1,52 @@
 -- How far a sweep has come.
 use mathlib.Core.Path.{_≡_, refl, sym, ap, subst, _∙_}
-use mathlib.Core.Logic.{_⊎_, inl, inr, ⊎-elim}
+use mathlib.Core.Bool.{Bool, true, false}
 use mathlib.Core.List.{List}
 use Prim.Native.Nat.{ℕ, _+_, _-_, _<_, _≤_}
 use native.Mathlib.Omega.{arith}
+use borrow.Author.Count.{below-more}
 use lib.ListN.{length}
 use Rattle.std.specs.declared.option.Option.{Option}
 use Rattle.std.specs.declared.option.Option.the-variants.{None, Some}
-use Rattle.std.proofs.shelf.Tests.{cases-eq}
 use Rattle.ranker.specs.declared.arc.Arc.{Arc}
 use Rattle.ranker.specs.Arcs.{arcAt}
-use Rattle.ranker.specs.Lifts.{Met, Below, slack, Swept}
+use Rattle.ranker.specs.Lifts.{Met, Below, slack, placeAt, Swept}
 
--- the arcs from k on are swept
-abbrev pub SweptFrom : List Arc → ℕ → List ℕ → List ℕ → ℕ → Option ℕ → Type 0
-SweptFrom arcs p was ranks k None = (ranks ≡ was) × ((j : ℕ) → k ≤ j → j < length arcs → Met p ranks (arcAt arcs j))
-SweptFrom arcs p was ranks k (Some s) = (s < length ranks) × (slack ranks < slack was)
+-- every place comes at some step
+place-step : (forward : Bool) (n k : ℕ) → k < n → (step : ℕ) × (step < n) × (placeAt forward n step ≡ k)
+place-step true n k b = (k, b, refl)
+place-step false n k b = (n - 1 - k, omega arith, omega arith)
 
-module _ (arcs : List Arc) (p : ℕ) (was : List ℕ) where
-  -- one more arc that is met
-  pub from-met : (ranks ranks′ : List ℕ) (k : ℕ) (last : Option ℕ) → 0 < k → ranks′ ≡ ranks → Met p ranks (arcAt arcs (k - 1)) →
-      SweptFrom arcs p was ranks k last → SweptFrom arcs p was ranks′ (k - 1) last
-  from-met ranks ranks′ k None pos same met x =
-      let all : (j : ℕ) → k - 1 ≤ j → j < length arcs → Met p ranks (arcAt arcs j) = λ j a b.
-      ⊎-elim
-      (λ (e : j ≡ k - 1). let F : ℕ → Type 0 = λ i. Met p ranks (arcAt arcs i) in subst F (sym e) met)
-      (λ (e : j ≡ k - 1 → ⊥). x .1 j (omega arith) b)
-      (cases-eq j (k - 1)) in
-      let F : List ℕ → Type 0 = λ r. (j : ℕ) → k - 1 ≤ j → j < length arcs → Met p r (arcAt arcs j) in
-      (same ∙ x .0, subst F (sym same) all)
-  from-met ranks ranks′ k (Some s) pos same met x = rw same x
+module _ (arcs : List Arc) (p : ℕ) (forward : Bool) (was : List ℕ) where
+  abbrev arcOf : ℕ → Arc
+  arcOf step = arcAt arcs (placeAt forward (length arcs) step)
 
-  -- one more that was lifted along
-  pub from-lift : (ranks ranks′ : List ℕ) (k s : ℕ) (last : Option ℕ) → SweptFrom arcs p was ranks k last → slack ranks′ < slack ranks → s < length ranks′ →
+  -- the first steps are taken
+  abbrev pub SweptTo : List ℕ → ℕ → Option ℕ → Type 0
+  SweptTo ranks step None = (ranks ≡ was) × ((i : ℕ) → i < step → Met p ranks (arcOf i))
+  SweptTo ranks step (Some s) = (s < length ranks) × (slack ranks < slack was)
+
+  -- one more, along an arc that is met
+  pub to-met : (ranks ranks′ : List ℕ) (step k : ℕ) (last : Option ℕ) → k ≡ placeAt forward (length arcs) step → ranks′ ≡ ranks → Met p ranks (arcAt arcs k) →
+      SweptTo ranks step last → SweptTo ranks′ (step + 1) last
+  to-met ranks ranks′ step k None e same met x =
+      let F : ℕ → Type 0 = λ j. Met p ranks (arcAt arcs j) in
+      let G : List ℕ → Type 0 = λ r. (i : ℕ) → i < step + 1 → Met p r (arcOf i) in
+      (same ∙ x .0, subst G (sym same) (below-more (λ i. Met p ranks (arcOf i)) step (x .1) (subst F e met)))
+  to-met ranks ranks′ step k (Some s) e same met x = rw same x
+
+  -- or along one that lifted its row
+  pub to-lift : (ranks ranks′ : List ℕ) (step s : ℕ) (last : Option ℕ) → SweptTo ranks step last → slack ranks′ < slack ranks → s < length ranks′ →
       (s < length ranks′) × (slack ranks′ < slack was)
-  from-lift ranks ranks′ k s None x less b = (b, omega (arith, ap slack (x .0)))
-  from-lift ranks ranks′ k s (Some t) x less b = (b, omega (arith, x .1))
+  to-lift ranks ranks′ step s None x less b = (b, omega (arith, ap slack (x .0)))
+  to-lift ranks ranks′ step s (Some t) x less b = (b, omega (arith, x .1))
 
-  pub from-all : (ranks : List ℕ) (last : Option ℕ) → Below ranks → SweptFrom arcs p was ranks 0 last → Swept arcs p was ranks last
-  from-all ranks None below x = (x .0, λ k b. x .1 k (omega arith) b)
-  from-all ranks (Some s) below x = (x .0, x .1, λ _. below)
+  pub to-all : (ranks : List ℕ) (step : ℕ) (last : Option ℕ) → length arcs ≤ step → Below ranks → SweptTo ranks step last → Swept arcs p was ranks last
+  to-all ranks step None long below x = (
+    x .0,
+    λ k b.
+        let s = place-step forward (length arcs) k b in
+        let F : ℕ → Type 0 = λ j. Met p ranks (arcAt arcs j) in
+        subst F (s .2) (x .1 (s .0) (omega (arith, s .1))),
+  )
+  to-all ranks step (Some s) long below x = (x .0, x .1, λ _. below)

@@ -1,6 +1,6 @@
 -- Ranks of one colour on their way up from 0, as lists.
 use mathlib.Core.Path.{_≡_}
-use mathlib.Core.Bool.{cond}
+use mathlib.Core.Bool.{Bool, true, false, cond}
 use mathlib.Core.List.{List}
 use Prim.Native.Nat.{ℕ, _+_, _-_, _<_, _≤_}
 use lib.Dec.{eqb}
@@ -44,6 +44,11 @@ pub record Lifts (arcs : List Arc) (p : ℕ) (ranks by : List ℕ) : Type 0 wher
 -- row s lies on a ring of the arcs that lifted it and the next
 abbrev pub OnRings : List Arc → List ℕ → List ℕ → ℕ → Type 0
 OnRings arcs ranks by s = (g : Graph) → Tells (length ranks) arcs g → OnRing g (rankIn ranks) (pickIn arcs by) (length ranks) s
+
+-- the place that comes at a step over n places, from the first on or from the last
+abbrev pub placeAt : Bool → ℕ → ℕ → ℕ
+placeAt true n step = step
+placeAt false n step = n - 1 - step
 
 -- what a sweep over the arcs leaves: all are met and nothing has changed, or row s was lifted last
 abbrev pub Swept : List Arc → ℕ → List ℕ → List ℕ → Option ℕ → Type 0

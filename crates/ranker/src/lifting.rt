@@ -7,7 +7,7 @@ ghost use lib.Dec.{eqb};
 ghost use lib.ListN.{length, getD};
 ghost use Rattle.std.specs.Options.{Cases};
 ghost use Rattle.ranker.specs.Arcs.{arcAt, Told};
-ghost use Rattle.ranker.specs.Lifts.{rankIn, dueBy, Met, Below, slack, Lifts, OnRings, Swept, AllSmallest};
+ghost use Rattle.ranker.specs.Lifts.{rankIn, dueBy, Met, Below, slack, Lifts, OnRings, placeAt, Swept, AllSmallest};
 
 /// What an arc asks of the rank of its row for a colour: the rank of the row that it leads to, and one more if it has
 /// this colour.
@@ -44,9 +44,18 @@ fn lift(arcs: &[Arc], colour: u8, k: usize, ranks: &mut [u16], by: &mut [u32]) -
     true
 }
 
-/// Lifts along every arc once, from the last to the first, and tells which row was lifted last. It stops at once where a
-/// rank has come to the number of rows.
-fn sweep(arcs: &[Arc], colour: u8, ranks: &mut [u16], by: &mut [u32]) -> Option<u16>
+/// The place of the arc that comes at a step, from the first on or from the last.
+fn place_at(forward: bool, count: usize, step: usize) -> usize
+    requires { ⌜ step < count ⌝ }
+    ensures place { λ r. ⌜ r ≡ placeAt forward count step ⌝ }
+    ensures within { λ r. ⌜ r < count ⌝ }
+{
+    if forward { step } else { count - 1 - step }
+}
+
+/// Lifts along every arc once, from the first on or from the last, and tells which row was lifted last. It stops at once
+/// where a rank has come to the number of rows.
+fn sweep(arcs: &[Arc], colour: u8, forward: bool, ranks: &mut [u16], by: &mut [u32]) -> Option<u16>
     requires lengths { ⌜ length (now arcs) ≤ 2 ^ 24 ⌝ ∗ ⌜ length (now ranks) ≤ 1024 ⌝ ∗ ⌜ length (now ranks) ≤ length (now by) ⌝ }
     requires told { ⌜ Told (length (now ranks)) (now arcs) ⌝ }
     requires lifts { ⌜ Lifts (now arcs) colour (now ranks) (now by) ⌝ }
@@ -55,7 +64,8 @@ fn sweep(arcs: &[Arc], colour: u8, ranks: &mut [u16], by: &mut [u32]) -> Option<
     ensures swept { λ r. ⌜ Swept (now (arcs .entry)) colour (now (ranks .entry)) (now (ranks .exit)) r ⌝ }
 {
     let mut last = None;
-    for k in (0..arcs.len()).rev() {
+    for step in 0..arcs.len() {
+        let k = place_at(forward, arcs.len(), step);
         if lift(arcs, colour, k, ranks, by) {
             let row = arcs[k].row;
             last = Some(row);
@@ -99,10 +109,12 @@ pub(crate) fn rank_colour(
     ensures { λ r. ⌜ Cases r (AllSmallest (now (arcs .entry)) colour (now (ranks .exit))) (λ row. Lifts (now (arcs .entry)) colour (now (ranks .exit)) (now (by .exit)) × OnRings (now (arcs .entry)) (now (ranks .exit)) (now (by .exit)) row) ⌝ }
 {
     ranks.fill(0);
-    while let Some(row) = sweep(arcs, colour, ranks, by) {
+    let mut forward = false;
+    while let Some(row) = sweep(arcs, colour, forward, ranks, by) {
         if let Some(ring) = ring_from(arcs, ranks, by, row) {
             return Some(ring);
         }
+        forward = !forward;
     }
     None
 }
