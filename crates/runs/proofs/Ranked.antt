@@ -18,7 +18,8 @@ use Rattle.table.specs.Rows.{firstRow, outcomesOf}
 use Rattle.table.specs.Ranks.{rankOf}
 use Rattle.table.specs.Accepts.{Accepts}
 use Rattle.table.proofs.Finds.{first-stands, first-within, stands-first}
-use Rattle.runs.specs.Walk.{tallied, sinceLarger, countOf}
+use Rattle.runs.specs.Walk.{tallied}
+use Rattle.runs.specs.Counted.{sinceLarger, countOf, tallyOf}
 use Rattle.runs.proofs.Counts.{below, below-most, below-mono, below-less}
 
 -- the rule of the ranks for one odd colour, at a round of colour c from row s to row t
@@ -46,11 +47,12 @@ one-more rk n p c s t k b le f h =
     (cases-order p c)
 
 -- what a tally counts
-pub counts : (p c k : ℕ) (past : List ℕ) → k ≡ countOf p (sinceLarger p past) → tallied p c k ≡ countOf p (sinceLarger p (c ∷ past))
-counts p c k past e =
+pub counts : (p c : ℕ) (past : List ℕ) → tallied p c (tallyOf p past) ≡ tallyOf p (c ∷ past)
+counts p c past =
+    let k = tallyOf p past in
     elim (ltb p c) as (λ b. cond b 0 (cond (eqb p c) (k + 1) k) ≡ countOf p (cond b [] (c ∷ sinceLarger p past))) [
       | true ↦ refl
-      | false ↦ elim (eqb p c) as (λ b. cond b (k + 1) k ≡ cond b 1 0 + countOf p (sinceLarger p past)) [ true ↦ omega arith | false ↦ omega arith ]
+      | false ↦ elim (eqb p c) as (λ b. cond b (k + 1) k ≡ cond b 1 0 + k) [ true ↦ omega arith | false ↦ omega arith ]
     ]
 
 module _ {P : Type 0} (m : Meaning P) (ok : Lawful m) (rows : List (Row P)) (ranks : List ℕ) (a : Accepts m rows ranks) where

@@ -3,7 +3,7 @@ use mathlib.Core.Path.{_≡_, refl, sym, ap, _∙_}
 use mathlib.Core.Bool.{Bool, true, false, cond}
 use mathlib.Core.Logic.{_⊎_, inl, inr, ⊎-elim}
 use mathlib.Core.List.{List, [], _∷_}
-use Prim.Native.Nat.{ℕ, zero, suc, _+_, _<_, _≤_}
+use Prim.Native.Nat.{ℕ, zero, suc, _+_, _%_, _<_, _≤_}
 use native.Mathlib.Omega.{arith}
 use lib.Dec.{leb}
 use lib.ListN.{length}
@@ -18,15 +18,15 @@ use Rattle.arena.specs.declared.moves.Outcome.{Outcome}
 use Rattle.table.specs.declared.row.Row.{Row}
 use Rattle.table.specs.declared.fault.Fault.{Fault}
 use Rattle.table.specs.declared.fault.Fault.the-variants.{NoOutcome, TooManyRounds}
-use Rattle.table.specs.Colours.{colourOf}
+use Rattle.table.specs.Colours.{colourOf, latchAfter}
 use Rattle.table.specs.Rows.{firstRow, outcomesOf}
 use Rattle.table.specs.Ranks.{rankOf}
 use Rattle.table.specs.Accepts.{Accepts}
 use Rattle.table.proofs.Lists.{none-some}
 use Rattle.table.proofs.Finds.{first-is, first-within, stands-first}
-use Rattle.runs.specs.declared.state.State.{State}
-use Rattle.runs.specs.Walk.{tallied, chosen, taken, movedBy, History, begun, noted, after, sinceLarger, countOf}
-use Rattle.runs.specs.Wins.{Counts, Stands}
+use Rattle.runs.specs.Walk.{tallyAfter, moved, chosen, taken, movedBy, Call, step, tally, History, begun, noted, called, after}
+use Rattle.runs.specs.Counted.{lastPosition, lastLatch, colours, counted, tallyOf}
+use Rattle.runs.specs.Wins.{Stands}
 use Rattle.runs.proofs.Counts.{below, below-most}
 use Rattle.runs.proofs.Ranked.{Falls, round-bound, counts, leads-on}
 
@@ -43,75 +43,87 @@ nth-there (x ∷ xs) zero b = (x, refl)
 nth-there (x ∷ xs) (suc i) b = nth-there xs i (omega arith)
 
 module _ {P : Type 0} (m : Meaning P) (ok : Lawful m) (rows : List (Row P)) (ranks : List ℕ) (a : Accepts m rows ranks) where
-  -- a tally, and the room that it has left at row s
-  abbrev Held : ℕ → ℕ → List ℕ → ℕ → Type 0
-  Held p s colours k = (k ≡ countOf p (sinceLarger p colours)) × (k + below (rankOf ranks (length rows) p) (length rows) s < length rows)
+  -- how much room the tally of p has left at row s
+  abbrev Room : ℕ → ℕ → List ℕ → Type 0
+  Room s p past = tallyOf p past + below (rankOf ranks (length rows) p) (length rows) s < length rows
 
   -- what a walk keeps
   record Good (h : History P) : Type 0 where
+    position : h .walk .position ≡ lastPosition m (h .past)
+    latch : h .walk .latch ≡ lastLatch m (h .past)
     number : ℕ
     row : Row P
     here : firstRow m rows (h .walk .position) (h .walk .latch) ≡ Some number
     there : nth rows number ≡ Some row
-    rounds : h .walk .rounds ≡ length (h .colours)
-    one : Held 1 number (h .colours) (h .walk .tallies .one)
-    three : Held 3 number (h .colours) (h .walk .tallies .three)
-    five : Held 5 number (h .colours) (h .walk .tallies .five)
-    seven : Held 7 number (h .colours) (h .walk .tallies .seven)
+    reads : h .walk .tally ≡ counted m (h .past)
+    room : (p : ℕ) → p % 2 ≡ 1 → p ≤ 7 → Room number p (colours m (h .past))
 
-  held-on : (p c s t k : ℕ) (past : List ℕ) → t < length rows → Falls (rankOf ranks (length rows) p) p c s t → Held p s past k → Held p t (c ∷ past) (tallied p c k)
-  held-on p c s t k past b f h = (counts p c k past (h .0), round-bound (rankOf ranks (length rows) p) (length rows) p c s t k b f (h .1))
+  room-on : (p c s t : ℕ) (past : List ℕ) → t < length rows → Falls (rankOf ranks (length rows) p) p c s t → Room s p past → Room t p (c ∷ past)
+  room-on p c s t past b f h = rw (← counts p c past) (round-bound (rankOf ranks (length rows) p) (length rows) p c s t (tallyOf p past) b f h)
 
-  good-round : (h : History P) (g : Good h) (i : ℕ) (o : Outcome P) → nth (outcomesOf m (g .row)) i ≡ Some o → Good (noted m h (Ok o))
+  count-on : (o : Outcome P) (past : List (Outcome P)) → tallyAfter (colourOf (lastLatch m past) o) (counted m past) ≡ counted m (o ∷ past)
+  count-on o past =
+      let c = colourOf (lastLatch m past) o in
+      let cs = colours m past in
+      let r : length past + 1 ≡ length (o ∷ past) = omega arith in
+      λ i. record { rounds = r i; one = counts 1 c cs i; three = counts 3 c cs i; five = counts 5 c cs i; seven = counts 7 c cs i }
+
+  good-round : (h : History P) (g : Good h) (i : ℕ) (o : Outcome P) → nth (outcomesOf m (g .row)) i ≡ Some o →
+      Good (record { walk = moved m (h .walk) o; past = o ∷ h .past })
   good-round h g i o x =
       let w = h .walk in
       let n = leads-on m ok rows ranks a (w .position) (w .latch) (g .number) i (g .row) o (g .here) (g .there) x in
       let f = first-is m (o .position) _ rows (n .to) (n .there) in
-      let c = colourOf (w .latch) o in
       record {
+        position = refl;
+        latch = ap (λ l. latchAfter m l o) (g .latch);
         number = n .to;
         row = f .row;
         here = n .there;
         there = f .there;
-        rounds = omega (arith, g .rounds);
-        one = held-on 1 c (g .number) (n .to) (w .tallies .one) (h .colours) (n .within) (n .falls 1 refl (omega arith)) (g .one);
-        three = held-on 3 c (g .number) (n .to) (w .tallies .three) (h .colours) (n .within) (n .falls 3 refl (omega arith)) (g .three);
-        five = held-on 5 c (g .number) (n .to) (w .tallies .five) (h .colours) (n .within) (n .falls 5 refl (omega arith)) (g .five);
-        seven = held-on 7 c (g .number) (n .to) (w .tallies .seven) (h .colours) (n .within) (n .falls 7 refl (omega arith)) (g .seven);
+        reads = rw (g .reads, g .latch) (count-on o (h .past));
+        room = λ p od b. rw (← g .latch) (room-on p (colourOf (w .latch) o) (g .number) (n .to) (colours m (h .past)) (n .within) (n .falls p od b) (g .room p od b));
       }
 
   -- only the last two tests of a step can fail
-  taken-is : (h : History P) (g : Good h) (i : ℕ) → taken m rows i (h .walk) ≡ cond (leb 1000000 (h .walk .rounds)) (Err TooManyRounds) (chosen (nth (outcomesOf m (g .row)) i))
-  taken-is h g i = rw (le-ltb 1024 (length rows) (a .few), g .here, g .there, a .legal (g .number) (g .row) (g .there))
+  taken-is : (h : History P) (g : Good h) (i : ℕ) → taken m rows i (h .walk) ≡ cond (leb 1000000 (length (h .past))) (Err TooManyRounds) (chosen (nth (outcomesOf m (g .row)) i))
+  taken-is h g i = rw (le-ltb 1024 (length rows) (a .few), g .reads, g .here, g .there, a .legal (g .number) (g .row) (g .there))
 
-  by-tests : (h : History P) (g : Good h) (i : ℕ) (b : Bool) (x : Option (Outcome P)) → nth (outcomesOf m (g .row)) i ≡ x → Good (noted m h (cond b (Err TooManyRounds) (chosen x)))
+  by-tests : (h : History P) (g : Good h) (i : ℕ) (b : Bool) (x : Option (Outcome P)) → nth (outcomesOf m (g .row)) i ≡ x →
+      let o = cond b (Err TooManyRounds) (chosen x) in Good (record { walk = movedBy m (h .walk) o; past = noted o (h .past) })
   by-tests h g i true x e = g
   by-tests h g i false None e = g
   by-tests h g i false (Some o) e = good-round h g i o e
 
-  good-noted : (h : History P) → Good h → (i : ℕ) → Good (noted m h (taken m rows i (h .walk)))
-  good-noted h g i = rw (taken-is h g i) (by-tests h g i (leb 1000000 (h .walk .rounds)) (nth (outcomesOf m (g .row)) i) refl)
+  good-called : (h : History P) → Good h → (c : Call) → Good (called m rows h c)
+  good-called h g (step i) = rw (taken-is h g i) (by-tests h g i (leb 1000000 (length (h .past))) (nth (outcomesOf m (g .row)) i) refl)
+  good-called h g tally = g
 
-  good-after : (is : List ℕ) (h : History P) → Good h → Good (after m rows h is)
+  good-after : (calls : List Call) (h : History P) → Good h → Good (after m rows h calls)
   good-after [] h g = g
-  good-after (i ∷ is) h g = good-after is _ (good-noted h g i)
+  good-after (c ∷ calls) h g = good-after calls _ (good-called h g c)
 
   good-begun : Good (begun m)
   good-begun =
       let f = stands-first m _ _ ok rows (a .starts .0) (a .starts .1) in
       let r = first-is m _ _ rows (f .0) (f .1) in
       let b = first-within m _ _ rows (f .0) (f .1) in
-      let held : (p : ℕ) → Held p (f .0) [] 0 = λ p. (refl, omega (arith, below-most (rankOf ranks (length rows) p) (length rows) (f .0) b)) in
-      record { number = f .0; row = r .row; here = f .1; there = r .there; rounds = refl; one = held 1; three = held 3; five = held 5; seven = held 7 }
+      record {
+        position = refl;
+        latch = refl;
+        number = f .0;
+        row = r .row;
+        here = f .1;
+        there = r .there;
+        reads = refl;
+        room = λ p od c. omega (arith, below-most (rankOf ranks (length rows) p) (length rows) (f .0) b);
+      }
 
-  tallies : (p s k : ℕ) (past : List ℕ) → Held p s past k → Counts (length rows) past p k
-  tallies p s k past h = (h .0, omega (arith, h .1))
-
-  stays-by : (w : State P) (r : Row P) (i : ℕ) (f : Fault) (b : Bool) (x : Option (Outcome P)) → leb 1000000 (w .rounds) ≡ b → nth (outcomesOf m r) i ≡ x →
-      movedBy m w (cond b (Err TooManyRounds) (chosen x)) ≡ Err f →
-      ((f ≡ TooManyRounds) × (1000000 ≤ w .rounds)) ⊎ ((f ≡ NoOutcome) × (length (outcomesOf m r) ≤ i))
-  stays-by w r i f true x eb ex e = inl (sym (err-same e), leb-true _ _ eb)
-  stays-by w r i f false None eb ex e =
+  stays-by : (n i : ℕ) (r : Row P) (f : Fault) (b : Bool) (x : Option (Outcome P)) → leb 1000000 n ≡ b → nth (outcomesOf m r) i ≡ x →
+      cond b (Err TooManyRounds) (chosen x) ≡ Err f →
+      ((f ≡ TooManyRounds) × (1000000 ≤ n)) ⊎ ((f ≡ NoOutcome) × (length (outcomesOf m r) ≤ i))
+  stays-by n i r f true x eb ex e = inl (sym (err-same e), leb-true _ _ eb)
+  stays-by n i r f false None eb ex e =
       inr (
         sym (err-same e),
         ⊎-elim
@@ -119,22 +131,21 @@ module _ {P : Type 0} (m : Meaning P) (ok : Lawful m) (rows : List (Row P)) (ran
             (λ (b : length (outcomesOf m r) ≤ i). b)
             (cases-lt i (length (outcomesOf m r))),
       )
-  stays-by w r i f false (Some o) eb ex e = absurd (err-ok (sym e))
+  stays-by n i r f false (Some o) eb ex e = absurd (err-ok (sym e))
 
   stands : (h : History P) → Good h → Stands m rows h
   stands h g =
       record {
+        position = g .position;
+        latch = g .latch;
         row = g .row;
         here = rw (g .here) (g .there);
         legal = a .legal (g .number) (g .row) (g .there);
-        goes = λ i o b e. rw (taken-is h g i, lt-leb 1000000 (h .walk .rounds) b, e);
-        stays = λ i f e. stays-by (h .walk) (g .row) i f _ _ refl refl (sym (ap (movedBy m (h .walk)) (taken-is h g i)) ∙ e);
-        rounds = g .rounds;
-        one = tallies 1 (g .number) (h .walk .tallies .one) (h .colours) (g .one);
-        three = tallies 3 (g .number) (h .walk .tallies .three) (h .colours) (g .three);
-        five = tallies 5 (g .number) (h .walk .tallies .five) (h .colours) (g .five);
-        seven = tallies 7 (g .number) (h .walk .tallies .seven) (h .colours) (g .seven);
+        goes = λ i o b e. rw (taken-is h g i, lt-leb 1000000 (length (h .past)) b, e);
+        stays = λ i f e. stays-by (length (h .past)) i (g .row) f _ _ refl refl (sym (taken-is h g i) ∙ e);
+        reads = g .reads;
+        few = λ p od b. omega (arith, g .room p od b);
       }
 
-  pub walks : (is : List ℕ) → Stands m rows (after m rows (begun m) is)
-  walks is = stands _ (good-after is (begun m) good-begun)
+  pub walks : (calls : List Call) → Stands m rows (after m rows (begun m) calls)
+  walks calls = stands _ (good-after calls (begun m) good-begun)

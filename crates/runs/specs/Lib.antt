@@ -1,3 +1,4 @@
 pub mod Walk
+pub mod Counted
 pub mod Runs
 pub mod Wins

@@ -1,4 +1,4 @@
--- A walk by a table: its steps, and the walk after a list of them.
+-- A walk by a table: its steps, and the walk after a list of calls.
 use mathlib.Core.Bool.{cond}
 use mathlib.Core.List.{List, [], _∷_}
 use Prim.Native.Nat.{ℕ, _+_}
@@ -17,28 +17,34 @@ use Rattle.table.specs.declared.fault.Fault.the-variants.{TooManyRows, NoRowHer
 use Rattle.table.specs.Colours.{colourOf, latchAfter}
 use Rattle.table.specs.Rows.{firstRow, outcomesOf}
 use Rattle.runs.specs.declared.state.State.{State}
-use Rattle.runs.specs.declared.state.Tallies.{Tallies}
+use Rattle.runs.specs.declared.state.Tally.{Tally}
 
 -- at the start, with nothing counted
 abbrev pub newWalk : {P : Type 0} → Meaning P → State P
-newWalk m = record { position = m .start; latch = m .priority (m .start); rounds = 0; tallies = record { one = 0; three = 0; five = 0; seven = 0 } }
+newWalk m =
+    record {
+      position = m .start;
+      latch = m .priority (m .start);
+      tally = record { rounds = 0; one = 0; three = 0; five = 0; seven = 0 };
+    }
 
 -- the tally of p after a round of colour c: a larger colour clears it
 abbrev pub tallied : ℕ → ℕ → ℕ → ℕ
 tallied p c n = cond (ltb p c) 0 (cond (eqb p c) (n + 1) n)
 
-abbrev pub talliesAfter : ℕ → Tallies → Tallies
-talliesAfter c t = record { one = tallied 1 c (t .one); three = tallied 3 c (t .three); five = tallied 5 c (t .five); seven = tallied 7 c (t .seven) }
+abbrev pub tallyAfter : ℕ → Tally → Tally
+tallyAfter c t =
+    record {
+      rounds = t .rounds + 1;
+      one = tallied 1 c (t .one);
+      three = tallied 3 c (t .three);
+      five = tallied 5 c (t .five);
+      seven = tallied 7 c (t .seven);
+    }
 
 -- a walk after a round with this outcome
-abbrev pub moved : {P : Type 0} → Meaning P → Outcome P → State P → State P
-moved m o w =
-    record {
-      position = o .position;
-      latch = latchAfter m (w .latch) o;
-      rounds = w .rounds + 1;
-      tallies = talliesAfter (colourOf (w .latch) o) (w .tallies);
-    }
+abbrev pub moved : {P : Type 0} → Meaning P → State P → Outcome P → State P
+moved m w o = record { position = o .position; latch = latchAfter m (w .latch) o; tally = tallyAfter (colourOf (w .latch) o) (w .tally) }
 
 -- the row of a number that was looked for
 abbrev pub rowOf : {P : Type 0} → List (Row P) → Option ℕ → Option (Row P)
@@ -61,40 +67,45 @@ chosenBy m i (Some r) = cond (m .legal (r .position) (r .choice)) (chosen (nth (
 abbrev pub taken : {P : Type 0} → Meaning P → List (Row P) → ℕ → State P → Result (Outcome P) Fault
 taken m rows i w =
     cond (ltb 1024 (length rows)) (Err TooManyRows)
-    (cond (leb 1000000 (w .rounds)) (Err TooManyRounds)
+    (cond (leb 1000000 (w .tally .rounds)) (Err TooManyRounds)
     (chosenBy m i (rowHere m rows w)))
 
--- a step moves the walk, or says why not
-abbrev pub movedBy : {P : Type 0} → Meaning P → State P → Result (Outcome P) Fault → Result (State P) Fault
-movedBy m w (Ok o) = Ok (moved m o w)
-movedBy m w (Err f) = Err f
+-- a step says only that it is taken, or why not
+abbrev pub answered : {P : Type 0} → Result (Outcome P) Fault → Result (Unit {0}) Fault
+answered (Ok o) = Ok tt
+answered (Err f) = Err f
 
-abbrev pub stepped : {P : Type 0} → Meaning P → List (Row P) → ℕ → State P → Result (State P) Fault
-stepped m rows i w = movedBy m w (taken m rows i w)
+-- a taken step is a round, and a refused one changes nothing
+abbrev pub movedBy : {P : Type 0} → Meaning P → State P → Result (Outcome P) Fault → State P
+movedBy m w (Ok o) = moved m w o
+movedBy m w (Err f) = w
 
--- a walk with the colours of its rounds so far, the latest first
+-- what is read off a walk, open or closed
+abbrev pub reading : {P : Type 0} → State P → Tally
+reading w = w .tally
+
+pub data Call : Type 0 where
+  step : ℕ → Call
+  tally : Call
+
+-- a walk with the outcomes of its rounds so far, the latest first
 pub record History (P : Type 0) : Type 0 where
   pub walk : State P
-  pub colours : List ℕ
+  pub past : List (Outcome P)
 
 abbrev pub begun : {P : Type 0} → Meaning P → History P
-begun m = record { walk = newWalk m; colours = [] }
+begun m = record { walk = newWalk m; past = [] }
 
--- a taken round is noted, and a refused step changes nothing
-abbrev pub noted : {P : Type 0} → Meaning P → History P → Result (Outcome P) Fault → History P
-noted m h (Ok o) = record { walk = moved m o (h .walk); colours = colourOf (h .walk .latch) o ∷ h .colours }
-noted m h (Err f) = h
+abbrev pub noted : {P : Type 0} → Result (Outcome P) Fault → List (Outcome P) → List (Outcome P)
+noted (Ok o) past = o ∷ past
+noted (Err f) past = past
 
--- a history after steps with these numbers, in their order
-abbrev pub after : {P : Type 0} → Meaning P → List (Row P) → History P → List ℕ → History P
+-- a history after a call
+abbrev pub called : {P : Type 0} → Meaning P → List (Row P) → History P → Call → History P
+called m rows h (step i) = let o = taken m rows i (h .walk) in record { walk = movedBy m (h .walk) o; past = noted o (h .past) }
+called m rows h tally = h
+
+-- a history after these calls, in their order
+abbrev pub after : {P : Type 0} → Meaning P → List (Row P) → History P → List Call → History P
 after m rows h [] = h
-after m rows h (i ∷ is) = after m rows (noted m h (taken m rows i (h .walk))) is
-
--- the rounds since the last of a colour larger than p, of colours with the latest first
-abbrev pub sinceLarger : ℕ → List ℕ → List ℕ
-sinceLarger p [] = []
-sinceLarger p (c ∷ past) = cond (ltb p c) [] (c ∷ sinceLarger p past)
-
-abbrev pub countOf : ℕ → List ℕ → ℕ
-countOf p [] = 0
-countOf p (c ∷ cs) = cond (eqb p c) 1 0 + countOf p cs
+after m rows h (c ∷ calls) = after m rows (called m rows h c) calls

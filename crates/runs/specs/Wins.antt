@@ -15,33 +15,32 @@ use Rattle.table.specs.declared.row.Row.{Row}
 use Rattle.table.specs.declared.fault.Fault.{Fault}
 use Rattle.table.specs.declared.fault.Fault.the-variants.{NoOutcome, TooManyRounds}
 use Rattle.table.specs.Rows.{outcomesOf}
-use Rattle.runs.specs.Walk.{rowHere, moved, stepped, History, begun, after, sinceLarger, countOf}
+use Rattle.runs.specs.Walk.{rowHere, taken, reading, Call, History, begun, after}
+use Rattle.runs.specs.Counted.{lastPosition, lastLatch, colours, counted, tallyOf}
 use Rattle.runs.specs.Runs.{Endless, ticks, colourAt, priorityAt, NoTick, Begins, isUs, times}
 
--- the tally of p is what the colours so far count, and stays below n
-abbrev pub Counts : ℕ → List ℕ → ℕ → ℕ → Type 0
-Counts n colours p tally = (tally ≡ countOf p (sinceLarger p colours)) × (tally < n)
-
--- how a walk stands after some steps
+-- how a walk stands after some calls, and what it answers to the next
 pub record Stands {P : Type 0} (m : Meaning P) (rows : List (Row P)) (h : History P) : Type 0 where
+  -- it is where the last round led, with the latch that the rounds left
+  pub position : h .walk .position ≡ lastPosition m (h .past)
+  pub latch : h .walk .latch ≡ lastLatch m (h .past)
   -- it has a row, whose move is legal
   pub row : Row P
   pub here : rowHere m rows (h .walk) ≡ Some row
   pub legal : m .legal (row .position) (row .choice) ≡ true
-  -- until the last round every outcome of that move can be taken, and leads where the arena says
-  pub goes : (i : ℕ) (o : Outcome P) → h .walk .rounds < 1000000 → nth (outcomesOf m row) i ≡ Some o → stepped m rows i (h .walk) ≡ Ok (moved m o (h .walk))
+  -- until the last round every outcome of that move can be taken
+  pub goes : (i : ℕ) (o : Outcome P) → length (h .past) < 1000000 → nth (outcomesOf m row) i ≡ Some o → taken m rows i (h .walk) ≡ Ok o
   -- a step is refused only for a round too many or an outcome that is not there
-  pub stays : (i : ℕ) (f : Fault) → stepped m rows i (h .walk) ≡ Err f →
-      ((f ≡ TooManyRounds) × (1000000 ≤ h .walk .rounds)) ⊎ ((f ≡ NoOutcome) × (length (outcomesOf m row) ≤ i))
-  pub rounds : h .walk .rounds ≡ length (h .colours)
-  pub one : Counts (length rows) (h .colours) 1 (h .walk .tallies .one)
-  pub three : Counts (length rows) (h .colours) 3 (h .walk .tallies .three)
-  pub five : Counts (length rows) (h .colours) 5 (h .walk .tallies .five)
-  pub seven : Counts (length rows) (h .colours) 7 (h .walk .tallies .seven)
+  pub stays : (i : ℕ) (f : Fault) → taken m rows i (h .walk) ≡ Err f →
+      ((f ≡ TooManyRounds) × (1000000 ≤ length (h .past))) ⊎ ((f ≡ NoOutcome) × (length (outcomesOf m row) ≤ i))
+  -- a tally reads what is counted from the rounds so far
+  pub reads : reading (h .walk) ≡ counted m (h .past)
+  -- and no tally of an odd colour reaches the number of rows
+  pub few : (p : ℕ) → p % 2 ≡ 1 → p ≤ 7 → tallyOf p (colours m (h .past)) < length rows
 
 pub record Wins {P : Type 0} (m : Meaning P) (rows : List (Row P)) : Type 0 where
-  -- however a walk is stepped, it never gets stuck, and no tally reaches the number of rows
-  pub walks : (is : List ℕ) → Stands m rows (after m rows (begun m) is)
+  -- however a new walk is called, it never gets stuck, and its tallies are counted and stay below the number of rows
+  pub walks : (calls : List Call) → Stands m rows (after m rows (begun m) calls)
   -- however the outcomes are picked, a run goes on for ever: pick k n is the number that is picked at moment k out of n
   pub runs : (pick : ℕ → ℕ → ℕ) → ((k n : ℕ) → 1 ≤ n → pick k n < n) →
       (run : Endless m rows) × ((k : ℕ) (r : Row P) → nth rows (run .row k) ≡ Some r → run .number k ≡ pick k (length (outcomesOf m r)))

@@ -1,8 +1,10 @@
 //! How a walk stands.
 
-/// For each odd colour, how many rounds had it since the last round of a larger colour.
+/// What a walk counts: all its rounds, and for each odd colour the rounds of this colour since the
+/// last round of a larger one.
 #[derive(Clone, Copy)]
-pub struct Tallies {
+pub struct Tally {
+    pub rounds: u32,
     pub one: u32,
     pub three: u32,
     pub five: u32,
@@ -14,6 +16,5 @@ pub struct Tallies {
 pub struct State<P> {
     pub position: P,
     pub latch: u8,
-    pub rounds: u32,
-    pub tallies: Tallies,
+    pub tally: Tally,
 }

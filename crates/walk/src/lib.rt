@@ -1,0 +1,3 @@
+//! Walks along a table, one round at a time.
+mod find;
+pub mod walk;
