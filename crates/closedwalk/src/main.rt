@@ -26,7 +26,8 @@ fn step(
 fn write_tally(rt: &LibcRuntime, tally: Tally) -> io::Result<()> {
     println!(
         rt,
-        "rounds {}, tallies {} {} {} {}", tally.rounds, tally.one, tally.three, tally.five, tally.seven
+        "rounds {}, tallies {} {} {} {}",
+        tally.rounds, tally.one, tally.three, tally.five, tally.seven
     )
 }
 
