@@ -3,7 +3,7 @@ use mathlib.Core.Path.{_≡_}
 use mathlib.Core.Bool.{Bool, true, false, cond}
 use mathlib.Core.List.{List, [], _∷_, _++_, map}
 use Prim.Native.String.{String}
-use Prim.Native.Nat.{ℕ}
+use Prim.Native.Nat.{ℕ, _≤_}
 use lib.Chars.{codes}
 use lib.Dec.{eqb}
 use lib.ListN.{length}
@@ -11,8 +11,12 @@ use Rattle.std.specs.declared.option.Option.the-variants.{Some, None}
 use Rattle.std.specs.declared.result.Result.{Result}
 use Rattle.std.specs.declared.result.Result.the-variants.{Ok, Err}
 use Rattle.clocks.specs.Regions.{Clock, clock, part, regionOf, waits}
-use Rattle.table.specs.declared.fault.Fault.the-variants.{NoStartRow, NoRow, RankRule}
+use Rattle.table.specs.declared.accepted.Accepted as answers
+use Rattle.table.specs.declared.fault.Fault.{Fault}
+use Rattle.table.specs.declared.fault.Fault.the-variants.{NoStartRow, NoRow, RankRule, LosingLoop}
 use Rattle.table.specs.Rows.{outcomesOf}
+use Rattle.loops.specs.declared.pair.Pair.{Pair}
+use Rattle.ranker.specs.Ranked as ranker
 use Rattle.game.specs.Timed.{timedMeaning}
 use Rattle.casetext.specs.declared.fault.TextFault.{TextFault}
 use Rattle.casetext.specs.declared.fault.TextFault.the-variants.{BadInterval}
@@ -60,12 +64,26 @@ abbrev pub Accepts : Type 0
 Accepts = judged (withRow1 row1) ≡ Accepted (record { rows = 5; outcomes = 21 })
 
 -- row 1 takes edge 0 without a wait, and so is to blame at outcome 0
+abbrev pub blaming : List ℕ
+blaming = withRow1 (tabbed "row 0 2 0 0 0 0 0 0 0 0/")
+
 abbrev pub Blames : Type 0
-Blames = judged (withRow1 (tabbed "row 0 2 0 0 0 0 0 0 0 0/")) ≡ Refused (RankRule 1 0)
+Blames = judged blaming ≡ Refused (RankRule 1 0)
 
 -- with rank 1 there the rule breaks where row 3 leads back to it
 abbrev pub Ranked : Type 0
 Ranked = judged (withRow1 (tabbed "row 0 2 0 0 0 0 1 0 0 0/")) ≡ Refused (RankRule 3 2)
+
+-- whatever ranks and pairs the ranker is lent for the five rows, it names a losing loop of colour 1
+abbrev pub namesLoop : Result Contents TextFault → Type 0
+namesLoop (Err f) = ⊥
+namesLoop (Ok c) =
+    (ranks ranks′ : List ℕ) (losing losing′ : List Pair) (r : Result answers.Accepted Fault) → length ranks ≡ 20 → 5 ≤ length losing
+    → ranker.Ranked (timedMeaning (c .game)) (c .rows) ranks losing (ranker.formFaults (timedMeaning (c .game)) (c .rows) ranks losing) r ranks′ losing′
+    → (k : ℕ) × (r ≡ Err (LosingLoop k 1))
+
+abbrev pub Loops : Type 0
+Loops = namesLoop (readText blaming)
 
 -- without its last row the plan leaves outcome 3 of row 3 without a row
 abbrev pub Misses : Type 0

@@ -1,5 +1,5 @@
 //! The worked examples, as theorems.
-ghost use Rattle.worked.specs.Worked.{Counts, Accepts, Blames, Ranked, Misses, Regions, Intervals};
+ghost use Rattle.worked.specs.Worked.{Counts, Accepts, Blames, Ranked, Loops, Misses, Regions, Intervals};
 
 /// Each example, stated in specs/Worked.antt over the definitions that the calls' contracts name.
 pub fn worked_stand() -> u8
@@ -7,6 +7,7 @@ pub fn worked_stand() -> u8
     ensures accepts { λ _. ⌜ Accepts ⌝ }
     ensures blames { λ _. ⌜ Blames ⌝ }
     ensures ranked { λ _. ⌜ Ranked ⌝ }
+    ensures loops { λ _. ⌜ Loops ⌝ }
     ensures misses { λ _. ⌜ Misses ⌝ }
     ensures regions { λ _. ⌜ Regions ⌝ }
     ensures intervals { λ _. ⌜ Intervals ⌝ }

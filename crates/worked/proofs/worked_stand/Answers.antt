@@ -1,4 +1,5 @@
 use mathlib.Core.Path.{refl}
+use Rattle.worked.proofs.Loops.{names-loop}
 use Rattle.worked.proofs.worked_stand.Needs as need
 
 pub returns : need.returns
@@ -8,6 +9,7 @@ returns c =
       accepts = refl;
       blames = refl;
       ranked = refl;
+      loops = names-loop;
       misses = refl;
       regions = (refl, refl, refl);
       intervals = (refl, refl, refl);
