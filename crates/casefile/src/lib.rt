@@ -1,4 +1,6 @@
 //! Reads the text of a case.
+#![tactic(auto)]
+
 pub mod case;
 mod columns;
 mod draft;

@@ -1,4 +1,6 @@
 //! Judges each case that the file `names` lists, and writes its name and the verdict.
+#![tactic(auto)]
+
 use casefile::room::Room;
 use std::{fs, io};
 use verdict::judge::judge;

@@ -1,4 +1,6 @@
 //! Clocks and their regions, for any number of clocks: definitions and the laws that hold of them.
+#![tactic(auto)]
+
 ghost use Rattle.clocks.specs.Theorems.{Scales, Holds, Said, Guards, Restarts, Owned, Shown, Kept, Fresh, Leaving, Arriving, Grains, Delays, Waits, Earlier, Once, Ends, Few};
 
 /// The laws of regions, each stated in specs/Theorems.antt.

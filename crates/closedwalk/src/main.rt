@@ -1,5 +1,7 @@
 //! Walks along the plan of a case, and closes the walk last: it writes what each step answers and
 //! what the walk has counted.
+#![tactic(auto)]
+
 use casefile::case::Case;
 use casefile::reader::read_into;
 use casefile::room::Room;

@@ -1,4 +1,6 @@
 //! Timed games: what they are made of, their rules, and the laws that hold of them.
+#![tactic(auto)]
+
 pub mod bounds;
 pub mod parts;
 

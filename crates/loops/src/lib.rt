@@ -1,4 +1,6 @@
 //! Losing loops of a table, and the ranks that rule them out: definitions and the laws that hold of them.
+#![tactic(auto)]
+
 pub mod pair;
 
 ghost use Rattle.loops.specs.Table.{graph_of, Decided, Excluded};

@@ -1,4 +1,6 @@
 //! Reads a case from standard input and writes what is asked about its plan.
+#![tactic(auto)]
+
 mod checking;
 mod input;
 mod ranking;

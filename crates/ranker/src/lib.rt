@@ -1,4 +1,6 @@
 //! Ranks for a table, or a losing loop of it.
+#![tactic(auto)]
+
 mod arc;
 pub mod error;
 mod lifting;

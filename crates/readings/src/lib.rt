@@ -1,4 +1,6 @@
 //! Clock readings at a scale, their regions, and the time that goes by.
+#![tactic(auto)]
+
 pub mod grains;
 pub mod scaled;
 mod spots;

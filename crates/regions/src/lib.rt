@@ -1,4 +1,6 @@
 //! Regions of up to three clocks and the tick clock, as the program has them.
+#![tactic(auto)]
+
 mod clock;
 pub mod region;
 pub mod standing;

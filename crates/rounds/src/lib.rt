@@ -1,4 +1,6 @@
 //! Rounds played with delays, and what they have to do with the outcomes of a move.
+#![tactic(auto)]
+
 ghost use Rattle.std.specs.Prelude.{◌≡◌};
 ghost use Rattle.rounds.specs.Theorems.{Played, Playable};
 

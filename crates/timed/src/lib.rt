@@ -1,3 +1,5 @@
 //! Timed games as arenas.
+#![tactic(auto)]
+
 pub mod timed_game;
 mod zones;

@@ -1,4 +1,6 @@
 //! The worked examples, as theorems.
+#![tactic(auto)]
+
 ghost use Rattle.worked.specs.Worked.{Counts, Accepts, Blames, Ranked, Loops, Misses, Regions, Intervals};
 
 /// Each example, stated in specs/Worked.antt over the definitions that the calls' contracts name.
