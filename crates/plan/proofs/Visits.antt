@@ -1,7 +1,7 @@
 -- Passages as a visitor is shown them.
 use Rattle.std.proofs.Common.{◌≡◌, ℕ, suc, ◌+◌, ◌<◌, ◌≤◌, Bool, true, List, [], ◌∷◌, ◌++◌, length, get_or, drop, Some, None, Ok, Err, Option, Result, sym, refl, ap, ◌∙◌, subst, add-one, arith}
 use Rattle.std.specs.List.{AllByRecursion as All}
-use Rattle.std.proofs.lemmas.List.{append_assoc, append_nil, at_drop_all}
+use Rattle.std.proofs.lemmas.List.{append_assoc, append-nil, at_drop_all}
 use Rattle.std.proofs.ByRecursion.{All-append, All-weaker}
 use Rattle.arena.specs.Meaning.{Meaning}
 use Rattle.arena.specs.declared.moves.Outcome.{Outcome}
@@ -42,7 +42,7 @@ pub record Partly {V : Type 0} (seen : V → ℕ → List Passage → Type 0) (n
 module _ {V : Type 0} (seen : V → ℕ → List Passage → Type 0) (n s : ℕ) (all : List Passage) (was : V) where
   pub partly_none : Partly seen n s all all was was
   partly_none =
-      record { behind = []; whole = refl; rows = tt; shown = λ before h up. rw append_nil h }
+      record { behind = []; whole = refl; rows = tt; shown = λ before h up. rw append-nil h }
 
   pub partly_more : (is is' : V) (more rest : List Passage) → UpTo s more →
       ((before : List Passage) → seen is n before → UpTo s before → seen is' n (before ++ more)) →
@@ -64,7 +64,7 @@ module _ {V : Type 0} (seen : V → ℕ → List Passage → Type 0) (n s : ℕ)
   pub partly_all : (is : V) → Partly seen n s all [] was is → (before : List Passage) → seen was n before → UpTo s before → seen is n (before ++ all)
   partly_all is x before h up =
       let F : List Passage → Type 0 = λ more. seen is n (before ++ more) in
-      subst F (sym (append_nil x.behind) ∙ x.whole) (x.shown before h up)
+      subst F (sym (append-nil x.behind) ∙ x.whole) (x.shown before h up)
 
 -- what an outcome shows comes from its row
 to_upto : (s i c : ℕ) (o : Option ℕ) → UpTo s (passage_to s i c o)
@@ -160,6 +160,6 @@ module _ {P V : Type 0} (m : Meaning P) (rows : List (Row P)) (rule : V → ℕ 
   pub past_all : (is : V) (s : ℕ) → length rows ≤ s → Past is s → (numbered (Wrong was) 0 rows ≡ []) × seen is (length rows) (passages_in m rows)
   past_all is s b t =
       let e : t.behind ≡ passages_in m rows =
-      sym (append_nil t.behind) ∙ ap (λ (more : List Passage). t.behind ++ more) (sym (at_drop_all (numbered (passages_at m rows) s) rows s b)) ∙ t.whole in
+      sym (append-nil t.behind) ∙ ap (λ (more : List Passage). t.behind ++ more) (sym (at_drop_all (numbered (passages_at m rows) s) rows s b)) ∙ t.whole in
       let F : List Passage → Type 0 = λ all. seen is (length rows) all in
       (turn_end (Wrong was) rows s b t.faults, subst F e t.shown)

@@ -9,8 +9,8 @@ loop-outcome-init g c =
     through_none (g.A.Arena.meaning table.arena.now) table.rows.now g.V.Visitor.rule g.V.Visitor.seen c.args.s c.args.row.now c.args.visitor.now
     (g.A.Arena.rest table.arena.now c.list-listing.result) c.list-listing.ensures
 
-pub check-outcome-requires : goal.check-outcome-requires
-check-outcome-requires g c =
+pub check_outcome-requires : goal.check_outcome-requires
+check_outcome-requires g c =
     let table = c.args.table.now in
     record {
       sound = c.requires.sound;
@@ -19,8 +19,8 @@ check-outcome-requires g c =
           (passages_at (g.A.Arena.meaning table.arena.now) table.rows.now c.args.s c.args.row.now) c.args.visitor.now c.loop-outcome.visitor _ c.loop-outcome.invariant.part c.requires.ready;
     }
 
-pub overflow-add-number : goal.overflow-add-number
-overflow-add-number g c =
+pub overflow_add-number : goal.overflow_add-number
+overflow_add-number g c =
     let arena = c.args.table.now.arena.now in
     let row = c.args.row.now in
     omega (arith, c.loop-outcome.invariant.count, ap length c.in-Some.ensures, ((g.met.A.Arena.lawful arena).counts row.position row.choice (sym c.if-not-legal.ensures)).1)
@@ -29,8 +29,8 @@ pub loop-outcome-preserved : goal.loop-outcome-preserved
 loop-outcome-preserved g c =
     let table = c.args.table.now in
     let arena = table.arena.now in
-    let e = c.in-ok-check-outcome.ensures in
+    let e = c.in_ok-check_outcome.ensures in
     through_more (g.A.Arena.meaning arena) table.rows.now g.V.Visitor.rule g.V.Visitor.seen c.args.s c.args.row.now c.args.visitor.now
-    tt c.in-ok-check-outcome.field-0 c.loop-outcome.visitor c.check-outcome.new.visitor c.loop-outcome.number c.in-Some.outcome
+    tt c.in_ok-check_outcome.field-0 c.loop-outcome.visitor c.check_outcome.new.visitor c.loop-outcome.number c.in-Some.outcome
     (g.A.Arena.rest arena c.loop-outcome.listing) (g.A.Arena.rest arena c.next.new.listing) c.in-Some.ensures
     e.answers e.same (e.shown refl) c.loop-outcome.invariant

@@ -15,8 +15,8 @@ loop-s-init g c =
     let table = c.args.table.now in
     (past_none (g.A.Arena.meaning table.arena.now) table.rows.now g.V.Visitor.rule g.V.Visitor.seen c.args.visitor.now c.requires.fresh, omega arith, omega arith)
 
-pub check-move-requires : goal.check-move-requires
-check-move-requires g c =
+pub check_move-requires : goal.check_move-requires
+check_move-requires g c =
     let table = c.args.table.now in
     let rows = table.rows.now in
     let m = g.A.Arena.meaning table.arena.now in
@@ -27,16 +27,16 @@ check-move-requires g c =
       ready = (t.behind, (t.shown, t.upto));
     }
 
-pub returns-in-err-outcomes : goal.returns-in-err-outcomes
-returns-in-err-outcomes g c =
+pub returns-in_err-outcomes : goal.returns-in_err-outcomes
+returns-in_err-outcomes g c =
     let table = c.args.table.now in
     let rows = table.rows.now in
     let m = g.A.Arena.meaning table.arena.now in
     let was = c.args.visitor.now in
     let r = c.row-item.result in
     let t = c.loop-s.invariant.0 in
-    let p = err_from_is_err_and c.from-residual.result c.from-residual.ensures.1 in
-    let e = c.in-err-outcomes.ensures.answers ∙ same_past m rows g.V.Visitor.rule g.V.Visitor.seen was (length (outcomes_of m r)) c.loop-s.visitor c.loop-s.s r t in
+    let p = err_from_is_err_and c.from_residual.result c.from_residual.ensures.1 in
+    let e = c.in_err-outcomes.ensures.answers ∙ same_past m rows g.V.Visitor.rule g.V.Visitor.seen was (length (outcomes_of m r)) c.loop-s.visitor c.loop-s.s r t in
     record {
       answers = rw (p.1, p.2) (turn_err (move_faults m rows (g.V.Visitor.rule was (length rows))) rows (length (outcomes_of m r)) (outcomes_in m rows) c.loop-s.s r _ (omega arith) c.row-item.is e t.faults);
       shown = λ q. absurd (both_ways _ (ap is_ok p.1) q);
@@ -49,11 +49,11 @@ loop-s-preserved g c =
     let m = g.A.Arena.meaning table.arena.now in
     let s = c.loop-s.s in
     let r = c.row-item.result in
-    let n = c.in-ok-outcomes.field-0 in
-    let e = c.in-ok-outcomes.ensures in
+    let n = c.in_ok-outcomes.field-0 in
+    let e = c.in_ok-outcomes.ensures in
     let count = (verdict_ok (length (outcomes_of m r)) n _ e.answers).1 in
     let fits : n ≤ 65535 = omega arith in (
-      past_more m rows g.V.Visitor.rule g.V.Visitor.seen c.args.visitor.now (length (outcomes_of m r)) n c.loop-s.visitor c.check-move.new.visitor s r (omega arith) c.row-item.is e.answers c.loop-s.invariant.0 e.same (e.shown refl),
+      past_more m rows g.V.Visitor.rule g.V.Visitor.seen c.args.visitor.now (length (outcomes_of m r)) n c.loop-s.visitor c.check_move.new.visitor s r (omega arith) c.row-item.is e.answers c.loop-s.invariant.0 e.same (e.shown refl),
       sum_more (λ r. length (outcomes_of m r)) rows s n c.loop-s.outcomes r (omega arith) c.row-item.is count c.loop-s.invariant.1,
       omega arith,
     )

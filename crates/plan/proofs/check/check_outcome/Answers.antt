@@ -5,8 +5,8 @@ use Rattle.plan.specs.declared.passage.Passage.{Passage}
 use Rattle.plan.proofs.Visits.{outcome_ok, passage_is, passage_next}
 use Rattle.plan.proofs.check.check_outcome.Goals as goal
 
-pub overflow-cast-passage-2 : goal.overflow-cast-passage-2
-overflow-cast-passage-2 g c =
+pub overflow_cast-passage-2 : goal.overflow_cast-passage-2
+overflow_cast-passage-2 g c =
     let table = c.args.table.now in
     let t : c.in-Some.t < length table.rows.now =
     first_within (g.A.Arena.meaning table.arena.now) _ _ table.rows.now c.in-Some.t (sym c.in-Some.ensures) in
@@ -17,9 +17,9 @@ visit-requires g c =
     let table = c.args.table.now in
     let m = g.A.Arena.meaning table.arena.now in
     let leads : row_after m table.rows.now c.args.latch c.args.outcome.now ≡ Some c.in-Some.t =
-    ap (first_row m table.rows.now c.args.outcome.now.position) (sym c.latch-after-next.ensures) ∙ sym c.in-Some.ensures in
+    ap (first_row m table.rows.now c.args.outcome.now.position) (sym c.latch_after-next.ensures) ∙ sym c.in-Some.ensures in
     let r = c.requires.ready in
-    (r.0, (r.1.0, passage_next m table.rows.now c.args.s c.args.latch c.args.number c.in-Some.t c.colour-of.result c.args.outcome.now leads c.colour-of.ensures (omega arith) (omega arith) r.0 r.1.1))
+    (r.0, (r.1.0, passage_next m table.rows.now c.args.s c.args.latch c.args.number c.in-Some.t c.colour_of.result c.args.outcome.now leads c.colour_of.ensures (omega arith) (omega arith) r.0 r.1.1))
 
 pub returns-then-visit : goal.returns-then-visit
 returns-then-visit g c =
@@ -31,9 +31,9 @@ returns-then-visit g c =
     let i = c.args.number in
     let t = c.in-Some.t in
     let o = c.args.outcome.now in
-    let k = c.colour-of.result in
-    let leads : row_after m rows l o ≡ Some t = ap (first_row m rows o.position) (sym c.latch-after-next.ensures) ∙ sym c.in-Some.ensures in
-    let is = c.colour-of.ensures in
+    let k = c.colour_of.result in
+    let leads : row_after m rows l o ≡ Some t = ap (first_row m rows o.position) (sym c.latch_after-next.ensures) ∙ sym c.in-Some.ensures in
+    let is = c.colour_of.ensures in
     let seen = g.V.Visitor.seen c.visit.new.self (length rows) in
     record {
       answers = outcome_ok m rows s l i t k o leads is tt (g.V.Visitor.rule c.args.visitor.now (length rows)) (sym c.visit.ensures.ruled ∙ c.if-visit.true);

@@ -3,4 +3,4 @@ use Rattle.std.proofs.lemmas.List.{take_at}
 use Rattle.goal.proofs.goal.automaton.stored.Goals as goal
 
 pub returns : goal.returns
-returns c = let same = c.copy-from-slice.ensures.after in take_at c.copy-from-slice.new.self _ _ (ap length same) ∙ same
+returns c = let same = c.copy_from_slice.ensures.after in take_at c.copy_from_slice.new.self _ _ (ap length same) ∙ same

@@ -18,7 +18,7 @@ loop-s-preserved g c =
     let inv = c.loop-s.invariant in
     let is = c.push.ensures in
     let e = slice_get_read rows (length rows) (n - 1) r refl (omega arith) c.index-rows-s.is in (
-      rw (is.heads, is.links) (index_more m rows n c.bucket-of.result r old.heads old.links (omega arith) e c.bucket-of.ensures inv.1 inv.2 inv.0),
+      rw (is.heads, is.links) (index_more m rows n c.bucket_of.result r old.heads old.links (omega arith) e c.bucket_of.ensures inv.1 inv.2 inv.0),
       ap length is.heads ∙ (length-set old.heads _ _ ∙ inv.1),
       ap length is.links ∙ (length-set old.links _ _ ∙ inv.2),
     )

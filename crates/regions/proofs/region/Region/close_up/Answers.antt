@@ -4,5 +4,5 @@ use Rattle.clocks.proofs.Counts.{upto_le}
 use Rattle.regions.specs.Code.{unceiled}
 use Rattle.regions.proofs.region.Region.close_up.Goals as goal
 
-pub overflow-add-result : goal.overflow-add-result
-overflow-add-result c = omega (arith, upto_le (seen (unceiled c.args.self)) (c.args.clock.class - 1))
+pub overflow_add-result : goal.overflow_add-result
+overflow_add-result c = omega (arith, upto_le (seen (unceiled c.args.self)) (c.args.clock.class - 1))

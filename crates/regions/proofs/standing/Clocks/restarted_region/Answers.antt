@@ -7,7 +7,7 @@ use Rattle.regions.proofs.standing.Clocks.restarted_region.Goals as goal
 
 pub returns : goal.returns
 returns c =
-    let r : Region = record { x = c.close-up.result; y = c.close-up-2.result; z = c.close-up-3.result; tick = c.close-up-4.result } in
-    let closed : parts c.args.self.ceilings r ≡ ranked (parts c.args.self.ceilings c.zeroed-region-at.result) = cc in
-    let e = closed ∙ ap ranked c.zeroed-region-at.ensures in
+    let r : Region = record { x = c.close_up.result; y = c.close_up-2.result; z = c.close_up-3.result; tick = c.close_up-4.result } in
+    let closed : parts c.args.self.ceilings r ≡ ranked (parts c.args.self.ceilings c.zeroed_region-at.result) = cc in
+    let e = closed ∙ ap ranked c.zeroed_region-at.ensures in
     record { own = proper_restarted c.args.self.ceilings c.args.self.region c.args.self.ok (flags c.args.restart) r e; is = e }
