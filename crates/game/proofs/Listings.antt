@@ -1,5 +1,5 @@
 -- A move's outcomes, region by region and edge by edge.
-use Rattle.std.proofs.Common.{◌≡◌, ℕ, zero, suc, ◌+◌, ◌-◌, ◌<◌, List, [], ◌∷◌, ◌++◌, length, Some, None, Option, sym, refl, ap, ◌∙◌, ap₂, append_assoc, append_nil, arith}
+use Rattle.std.proofs.Common.{◌≡◌, ℕ, zero, suc, ◌+◌, ◌-◌, ◌<◌, List, [], ◌∷◌, ◌++◌, length, Some, None, Option, sym, refl, ap, ◌∙◌, ap₂, append_assoc, append-nil, arith}
 use Rattle.std.specs.List.{slice_get}
 use Rattle.arena.specs.declared.moves.Side.TheVariants.{Them}
 use Rattle.clocks.specs.Regions.{Part, onward, waits}
@@ -10,7 +10,7 @@ use Rattle.game.specs.Theorems.{Listed, ByRegion, Beyond, ByEdge}
 
 -- the first of each comes first
 pub each_front : {A : Type 0} (n : ℕ) (f : ℕ → List A) → each (suc n) f ≡ f 0 ++ each n (λ j. f (suc j))
-each_front zero f = sym (append_nil (f 0))
+each_front zero f = sym (append-nil (f 0))
 each_front (suc n) f = ap (λ xs. xs ++ f (suc n)) (each_front n f) ∙ append_assoc (f 0) (each n (λ j. f (suc j))) (f (suc n))
 
 pub each_same : {A : Type 0} (n : ℕ) (f h : ℕ → List A) → ((j : ℕ) → f j ≡ h j) → each n f ≡ each n h
@@ -53,7 +53,7 @@ pub by_region : ByRegion
 by_region g l k q = over k ∙ ap (λ xs. result g Them l None q ∷ xs ++ theirs_after g l k q) (sym (edges_all g l q))
   where
     over : (k : ℕ) → theirs_over g l k (Some q) ≡ theirs g l q ++ theirs_after g l k q
-    over zero = sym (append_nil (theirs g l q))
+    over zero = sym (append-nil (theirs g l q))
     over (suc k) = refl
 
 pub beyond : Beyond

@@ -1,4 +1,4 @@
-use Rattle.std.proofs.Common.{◌+◌, [], ◌∷◌, ◌++◌, drop, vec_items, sym, ap, ◌∙◌, append_nil, arith}
+use Rattle.std.proofs.Common.{◌+◌, [], ◌∷◌, ◌++◌, drop, vec_items, sym, ap, ◌∙◌, append-nil, arith}
 use Rattle.std.proofs.lemmas.List.{at_drop_more, at_drop_all}
 use Rattle.casetext.specs.Case.{column}
 use Rattle.casetext.proofs.Reading.{carry}
@@ -16,7 +16,7 @@ loop-row-preserved c = (
 pub returns : goal.returns
 returns c =
     record {
-      items = sym (c.loop-row.invariant.0 ∙ ap (λ x. vec_items c.loop-row.columns ++ x) (at_drop_all (column c.args.colour) c.args.ranks.now c.loop-row.row-index (omega arith)) ∙ append_nil _);
+      items = sym (c.loop-row.invariant.0 ∙ ap (λ x. vec_items c.loop-row.columns ++ x) (at_drop_all (column c.args.colour) c.args.ranks.now c.loop-row.row-index (omega arith)) ∙ append-nil _);
       len = omega arith;
       capacity = c.loop-row.invariant.2;
     }

@@ -14,14 +14,14 @@ loop-row-init c =
 pub sweep-requires : goal.sweep-requires
 sweep-requires c = search rules
 
-pub ring-from-requires : goal.ring-from-requires
-ring-from-requires c = search rules
+pub ring_from-requires : goal.ring_from-requires
+ring_from-requires c = search rules
 
 pub loop-row-smaller : goal.loop-row-smaller
 loop-row-smaller c = c.in-Some.ensures.swept.1
 
 pub loop-row-preserved : goal.loop-row-preserved
-loop-row-preserved c = (c.in-Some.ensures.lifts, c.in-Some.ensures.swept.2 c.in-default-ring-from.ensures)
+loop-row-preserved c = (c.in-Some.ensures.lifts, c.in-Some.ensures.swept.2 c.in_default-ring_from.ensures)
 
 pub returns : goal.returns
-returns c = λ g tells. met_smallest g c.args.colour c.args.arcs.now c.sweep.new.ranks c.sweep.new.by tells c.in-default.ensures.lifts (rw c.in-default.ensures.swept.0 c.loop-row.invariant.1) c.in-default.ensures.swept.1
+returns c = λ g tells. met_smallest g c.args.colour c.args.arcs.now c.sweep.new.ranks c.sweep.new.by tells c.in_default.ensures.lifts (rw c.in_default.ensures.swept.0 c.loop-row.invariant.1) c.in_default.ensures.swept.1

@@ -13,7 +13,7 @@ returns-then-ranks-at-eq0 c =
     let g = c.requires.told.0 in
     let tells = c.requires.told.1 in
     let inv = c.loop-step.invariant.1 g tells in
-    let k = c.loop-step.-step in
+    let k = c.loop-step._step in
     omega (arith, most_steps g c.requires.lifts.0 (rank_in ranks) pick tells.closed (c.requires.lifts.1.lifted g tells) k c.args.row (omega (arith, tells.size)) inv.1, ap (rank_in ranks) inv.0)
 
 pub bounds-arcs-by : goal.bounds-arcs-by
@@ -35,7 +35,7 @@ loop-step-preserved c =
       λ g tells.
           let inv = c.loop-step.invariant.1 g tells in
           let R : ℕ → Type 0 = λ x. 0 < rank_in ranks x in (
-            after_more g (pick_in arcs by) c.loop-step.-step c.args.row
+            after_more g (pick_in arcs by) c.loop-step._step c.args.row
                 ∙ ap (λ (x : ℕ). g.to x (pick_in arcs by x)) inv.0
                 ∙ leads arcs c.requires.lifts.0 ranks by up at c.loop-step.invariant.0 here g tells,
             below_more _ _ inv.1 (subst R (sym inv.0) here),
@@ -48,7 +48,7 @@ returns c = λ g tells.
     let pick = pick_in c.args.arcs.now c.args.by.now in
     let inv = c.loop-step.invariant.1 g tells in
     let n : g.size ≡ length ranks = tells.size in
-    let k : c.loop-step.-step ≡ g.size = omega arith in
+    let k : c.loop-step._step ≡ g.size = omega arith in
     let K : ℕ → Type 0 = λ x. after g pick x c.args.row ≡ c.loop-step.at in
     let ring = on_ring g c.requires.lifts.0 (rank_in ranks) pick tells.closed (c.requires.lifts.1.lifted g tells) c.args.row (omega arith) (λ j b. inv.1 j (omega arith)) in
     let R : ℕ → ℕ → Type 0 = λ x y. OnRing g (rank_in ranks) pick x y in

@@ -9,5 +9,5 @@ abbrev pub invariant-loop-step : goal.invariant-loop-step
 invariant-loop-step l =
     (l.at < length l.ranks)
     × ((g : Graph) → Tells (length l.ranks) l.arcs g →
-    (after g (pick_in l.arcs l.by) l.-step l.row ≡ l.at)
-    × ((j : ℕ) → j < l.-step → 0 < rank_in l.ranks (after g (pick_in l.arcs l.by) j l.row)))
+    (after g (pick_in l.arcs l.by) l._step l.row ≡ l.at)
+    × ((j : ℕ) → j < l._step → 0 < rank_in l.ranks (after g (pick_in l.arcs l.by) j l.row)))

@@ -5,34 +5,34 @@ use Rattle.ranker.specs.Loops.{Written}
 use Rattle.ranker.proofs.Stretches.{stretch_end, stretch_length, drafted_more, none_smaller}
 use Rattle.ranker.proofs.ranker.draft_ranks.Goals as goal
 
-pub slice-bounds-stretch-end : goal.slice-bounds-stretch-end
-slice-bounds-stretch-end c = omega (arith, stretch_end c.loop-q.q c.args.n (omega arith))
+pub slice_bounds-stretch-end : goal.slice_bounds-stretch-end
+slice_bounds-stretch-end c = omega (arith, stretch_end c.loop-q.q c.args.n (omega arith))
 
-pub rank-colour-requires : goal.rank-colour-requires
-rank-colour-requires c =
+pub rank_colour-requires : goal.rank_colour-requires
+rank_colour-requires c =
     let e = stretch_length c.loop-q.q c.args.n c.loop-q.draft (omega arith) (omega arith) in
     let F : ℕ → Type 0 = λ n. Told n c.args.arcs.now in
     record { lengths = (omega arith, (omega arith, omega (arith, c.loop-q.invariant.0))); told = subst F (sym e) c.requires.told }
 
-pub write-loop-length-requires : goal.write-loop-length-requires
-write-loop-length-requires c =
-    let e = c.rank-colour.auto.ranks ∙ stretch_length c.loop-q.q c.args.n c.loop-q.draft (omega arith) (omega arith) in
+pub write_loop-length-requires : goal.write_loop-length-requires
+write_loop-length-requires c =
+    let e = c.rank_colour.auto.ranks ∙ stretch_length c.loop-q.q c.args.n c.loop-q.draft (omega arith) (omega arith) in
     let F : ℕ → Type 0 = λ n. Told n c.args.arcs.now in
     record {
-      ring = (2 * c.loop-q.q + 1, (c.rank-colour.new.ranks, (c.in-Some.ensures, subst F (sym e) c.requires.told, omega arith, omega (arith, c.loop-q.invariant.0, c.rank-colour.auto.by), omega arith)));
+      ring = (2 * c.loop-q.q + 1, (c.rank_colour.new.ranks, (c.in-Some.ensures, subst F (sym e) c.requires.told, omega arith, omega (arith, c.loop-q.invariant.0, c.rank_colour.auto.by), omega arith)));
     }
 
 pub returns-in-Some : goal.returns-in-Some
 returns-in-Some c = λ g tells.
-    let e = c.rank-colour.auto.ranks ∙ stretch_length c.loop-q.q c.args.n c.loop-q.draft (omega arith) (omega arith) in
+    let e = c.rank_colour.auto.ranks ∙ stretch_length c.loop-q.q c.args.n c.loop-q.draft (omega arith) (omega arith) in
     let F : ℕ → Type 0 = λ n. Tells n c.args.arcs.now g in
-    let W : List Pair → Type 0 = λ was. Written g (2 * c.loop-q.q + 1) was c.write-loop-length.result c.write-loop-length.new.losing in (
-      c.write-loop-length.result,
+    let W : List Pair → Type 0 = λ was. Written g (2 * c.loop-q.q + 1) was c.write_loop-length.result c.write_loop-length.new.losing in (
+      c.write_loop-length.result,
       (
         2 * c.loop-q.q + 1,
         (
           refl,
-          subst W c.loop-q.invariant.1 (c.write-loop-length.ensures (2 * c.loop-q.q + 1) c.rank-colour.new.ranks g c.in-Some.ensures (subst F (sym e) tells) (omega arith)),
+          subst W c.loop-q.invariant.1 (c.write_loop-length.ensures (2 * c.loop-q.q + 1) c.rank_colour.new.ranks g c.in-Some.ensures (subst F (sym e) tells) (omega arith)),
           none_smaller g c.loop-q.q c.args.n c.loop-q.draft (c.loop-q.invariant.2 g tells),
         ),
       ),
@@ -42,13 +42,13 @@ pub loop-q-preserved : goal.loop-q-preserved
 loop-q-preserved c =
     let q = c.loop-q.q in
     let n = c.args.n in
-    let e = c.rank-colour.auto.ranks ∙ stretch_length q n c.loop-q.draft (omega arith) (omega arith) in (
-      c.rank-colour.auto.by ∙ c.loop-q.invariant.0,
+    let e = c.rank_colour.auto.ranks ∙ stretch_length q n c.loop-q.draft (omega arith) (omega arith) in (
+      c.rank_colour.auto.by ∙ c.loop-q.invariant.0,
       c.loop-q.invariant.1,
       λ g tells.
           let F : ℕ → Type 0 = λ n. Tells n c.args.arcs.now g in
-          drafted_more g q n ((q + 1) * n - q * n) c.loop-q.draft c.rank-colour.new.ranks tells.closed tells.size
-          (omega (arith, stretch_end q n (omega arith))) e (c.loop-q.invariant.2 g tells) (c.in-default.ensures g (subst F (sym e) tells)),
+          drafted_more g q n ((q + 1) * n - q * n) c.loop-q.draft c.rank_colour.new.ranks tells.closed tells.size
+          (omega (arith, stretch_end q n (omega arith))) e (c.loop-q.invariant.2 g tells) (c.in_default.ensures g (subst F (sym e) tells)),
     )
 
 pub returns : goal.returns

@@ -8,40 +8,40 @@ use Rattle.ranker.proofs.Telling.{noted_tells}
 use Rattle.ranker.proofs.Rankings.{well, few, four, enough, refuted, refuted_exact, filled, filled_exact}
 use Rattle.ranker.proofs.ranker.rank_with.Goals as goal
 
-pub rank-arcs-requires : goal.rank-arcs-requires
-rank-arcs-requires g c =
+pub rank_arcs-requires : goal.rank_arcs-requires
+rank_arcs-requires g c =
     let m = g.A.Arena.meaning c.args.arena.now in
     let rows = c.args.rows.now in
     let ranks = c.args.ranks.now in
     let losing = c.args.losing.now in
     let notes = c.survey.new.visitor in
-    let e = c.in-ok-accepted.ensures in
-    let a = c.in-ok-accepted.accepted in
+    let e = c.in_ok-accepted.ensures in
+    let a = c.in_ok-accepted.accepted in
     let F : List Arc → Type 0 = λ arcs. Tells (length rows) arcs (graph_of m rows) in
     record {
       lengths = (omega (arith, ap length c.deref.ensures.value, noted_few (length rows) _ (vec_items notes.scratch.arcs) notes.stamps (e.shown refl)), (few m rows ranks losing a e.answers, (four m rows ranks losing a e.answers, enough m rows ranks losing a e.answers)));
       told = (graph_of m rows, subst F (sym c.deref.ensures.value) (noted_tells m rows (well m rows ranks losing a e.answers) (vec_items notes.scratch.arcs) notes.stamps (e.shown refl)));
     }
 
-pub returns-in-err-rank-arcs : goal.returns-in-err-rank-arcs
-returns-in-err-rank-arcs g c =
+pub returns-in_err-rank_arcs : goal.returns-in_err-rank_arcs
+returns-in_err-rank_arcs g c =
     let m = g.A.Arena.meaning c.args.arena.now in
     let rows = c.args.rows.now in
     let ranks = c.args.ranks.now in
     let losing = c.args.losing.now in
     let notes = c.survey.new.visitor in
-    let e = c.in-ok-accepted.ensures in
-    let a = c.in-ok-accepted.accepted in
+    let e = c.in_ok-accepted.ensures in
+    let a = c.in_ok-accepted.accepted in
     let F : List Arc → Type 0 = λ arcs. Tells (length rows) arcs (graph_of m rows) in
     let tells : Tells (length rows) c.deref.result.now (graph_of m rows) =
     subst F (sym c.deref.ensures.value) (noted_tells m rows (well m rows ranks losing a e.answers) (vec_items notes.scratch.arcs) notes.stamps (e.shown refl)) in
-    let p = err_from_is_err_and c.from-residual-in-err-rank-arcs.result c.from-residual-in-err-rank-arcs.ensures.1 in
+    let p = err_from_is_err_and c.from_residual-in_err-rank_arcs.result c.from_residual-in_err-rank_arcs.ensures.1 in
     let is = p.1 ∙ ap Err p.2 in
-    let d = c.in-err-rank-arcs.ensures.drafted (graph_of m rows) tells in
-    let rest = c.in-err-rank-arcs.ensures.rest refl in
+    let d = c.in_err-rank_arcs.ensures.drafted (graph_of m rows) tells in
+    let rest = c.in_err-rank_arcs.ensures.rest refl in
     record {
-      ranked = refuted m rows ranks losing a e.answers c.rank-arcs.new.ranks c.rank-arcs.new.losing c.from-residual-in-err-rank-arcs.result _ is d rest;
-      exact = refuted_exact m rows ranks losing a e.answers c.rank-arcs.new.ranks c.rank-arcs.new.losing c.from-residual-in-err-rank-arcs.result _ is d rest;
+      ranked = refuted m rows ranks losing a e.answers c.rank_arcs.new.ranks c.rank_arcs.new.losing c.from_residual-in_err-rank_arcs.result _ is d rest;
+      exact = refuted_exact m rows ranks losing a e.answers c.rank_arcs.new.ranks c.rank_arcs.new.losing c.from_residual-in_err-rank_arcs.result _ is d rest;
     }
 
 pub returns : goal.returns
@@ -51,13 +51,13 @@ returns g c =
     let ranks = c.args.ranks.now in
     let losing = c.args.losing.now in
     let notes = c.survey.new.visitor in
-    let e = c.in-ok-accepted.ensures in
-    let a = c.in-ok-accepted.accepted in
+    let e = c.in_ok-accepted.ensures in
+    let a = c.in_ok-accepted.accepted in
     let F : List Arc → Type 0 = λ arcs. Tells (length rows) arcs (graph_of m rows) in
     let tells : Tells (length rows) c.deref.result.now (graph_of m rows) =
     subst F (sym c.deref.ensures.value) (noted_tells m rows (well m rows ranks losing a e.answers) (vec_items notes.scratch.arcs) notes.stamps (e.shown refl)) in
-    let d = c.in-ok-rank-arcs.ensures.drafted (graph_of m rows) tells in
+    let d = c.in_ok-rank_arcs.ensures.drafted (graph_of m rows) tells in
     record {
-      ranked = filled m rows ranks losing a e.answers c.rank-arcs.new.ranks c.rank-arcs.new.losing d c.rank-arcs.auto.ranks;
-      exact = filled_exact m rows ranks losing a e.answers c.rank-arcs.new.ranks c.rank-arcs.new.losing d c.rank-arcs.auto.ranks;
+      ranked = filled m rows ranks losing a e.answers c.rank_arcs.new.ranks c.rank_arcs.new.losing d c.rank_arcs.auto.ranks;
+      exact = filled_exact m rows ranks losing a e.answers c.rank_arcs.new.ranks c.rank_arcs.new.losing d c.rank_arcs.auto.ranks;
     }

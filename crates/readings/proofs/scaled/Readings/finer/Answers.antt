@@ -3,8 +3,8 @@ use Rattle.readings.specs.Grains.{clocks_at}
 use Rattle.readings.proofs.Limits.{limits, scale_fits, finer_fits, finer_readable}
 use Rattle.readings.proofs.scaled.Readings.finer.Goals as goal
 
-pub overflow-mul-scale : goal.overflow-mul-scale
-overflow-mul-scale c = omega (arith, scale_fits c.args.factor c.args.self (omega arith))
+pub overflow_mul-scale : goal.overflow_mul-scale
+overflow_mul-scale c = omega (arith, scale_fits c.args.factor c.args.self (omega arith))
 
 pub finer-grains-requires : goal.finer-grains-requires
 finer-grains-requires c =
@@ -12,12 +12,12 @@ finer-grains-requires c =
     let l = limits r in
     let fits = finer_fits c.args.factor r (omega arith) in
     record {
-      x = fits r.ceilings.x r.grains.x l.x-low l.x-held;
-      y = fits r.ceilings.y r.grains.y l.y-low l.y-held;
-      z = fits r.ceilings.z r.grains.z l.z-low l.z-held;
-      tick = fits 1 r.grains.tick (omega arith) l.tick-held;
+      x = fits r.ceilings.x r.grains.x l.x_low l.x_held;
+      y = fits r.ceilings.y r.grains.y l.y_low l.y_held;
+      z = fits r.ceilings.z r.grains.z l.z_low l.z_held;
+      tick = fits 1 r.grains.tick (omega arith) l.tick_held;
     }
 
-pub invariant-of-result : goal.invariant-of-result
-invariant-of-result c =
-    (finer_readable c.args.factor c.args.self (omega arith) c.finer-grains.result (omega arith) (ap (clocks_at c.args.self.ceilings) c.finer-grains.ensures), tt)
+pub invariant_of-result : goal.invariant_of-result
+invariant_of-result c =
+    record { ok = finer_readable c.args.factor c.args.self (omega arith) c.finer-grains.result (omega arith) (ap (clocks_at c.args.self.ceilings) c.finer-grains.ensures) }

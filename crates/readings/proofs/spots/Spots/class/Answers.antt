@@ -10,9 +10,9 @@ returns c =
     let ys : c.if-z-y.counts ≡ eqb s.z.rest s.y.rest || (eqb s.tick.rest s.y.rest || false) = search rules in
     let xs : c.if-z-x.counts ≡ eqb s.y.rest s.x.rest || (eqb s.z.rest s.x.rest || (eqb s.tick.rest s.x.rest || false)) = search rules in
     four (part_at 0 s.x) (part_at 0 s.y) (part_at 0 s.z) (part_at 1 s.tick) v
-    c.counts-tick-counts.result c.counts-z-counts.result c.counts-y-counts.result c.counts-x-counts.result
+    c.counts-tick_counts.result c.counts-z_counts.result c.counts-y_counts.result c.counts-x_counts.result
     c.if-rest-eq0.false
-    c.counts-tick-counts.ensures
+    c.counts-tick_counts.ensures
     (search rules)
-    (c.counts-y-counts.ensures ∙ ap (counted s.y.rest v) ys)
-    (c.counts-x-counts.ensures ∙ ap (counted s.x.rest v) xs)
+    (c.counts-y_counts.ensures ∙ ap (counted s.y.rest v) ys)
+    (c.counts-x_counts.ensures ∙ ap (counted s.x.rest v) xs)
