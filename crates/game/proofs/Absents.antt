@@ -15,7 +15,7 @@ use Rattle.game.specs.declared.bounds.Bound.{Bound}
 use Rattle.game.specs.declared.bounds.Bounds.{Bounds}
 use Rattle.game.specs.declared.parts.Edge.{Edge}
 use Rattle.game.specs.Intervals.{unending, everywhere, meets_high, meets, holds}
-use Rattle.game.specs.Game.{Game, ticks, resets_of, fresh, limits, edge_at, result, resettable, resetting, suits, sound}
+use Rattle.game.specs.Game.{Game, ticks, resets_of, fresh, limits, edge_at, result_of, resettable, resetting, suits, sound}
 use Rattle.game.specs.Absent.{Past, Absent, AbsentPast, StayAbsent}
 use Rattle.game.proofs.Sounds.{sound_edge_lem}
 use Rattle.game.proofs.Rises.{next_cases, waits_keep, waits_ceilings}
@@ -167,7 +167,7 @@ module _ (g : Game) (s : sound g ≡ true) where
       (and_parts (resetting g.ceilings d.resets) (suits g.ceilings d.guard) u.1).0
 
   result_absent : (v : Side) (l j : ℕ) (e : Option ℕ) (r q : List Part) → map (λ p. p.ceiling) r ≡ limits g → All AbsentPast r → waits j r ≡ Some q
-      → All AbsentPast (result g v l (edge_at g e) q).position.region
+      → All AbsentPast (result_of g v l (edge_at g e) q).position.region
   result_absent v l j e r q c h w =
       let bs : List Bool = resets_of (edge_at g e) ++ ticks q ∷ [] in
       let i : limits g ≡ map (λ p. p.ceiling) q = sym (waits_ceilings j r q w ∙ c) in

@@ -18,7 +18,7 @@ use Rattle.game.specs.declared.bounds.Zone.{Zone}
 use Rattle.game.specs.declared.parts.Location.{Location}
 use Rattle.game.specs.declared.parts.Edge.{Edge}
 use Rattle.game.specs.Intervals.{zone, meets_high, meets, holds}
-use Rattle.game.specs.Game.{Game, place, last_whole, ticks, same_side, invariant_of, resets_of, flags, carried, limits, keeps, owns, result, edge_fits, edge_at, may_take, legal, outcomes}
+use Rattle.game.specs.Game.{Game, place, last_whole, ticks, same_side, invariant_of, resets_of, flags, carried, limits, keeps, owns, result_of, edge_fits, edge_at, may_take, legal, outcomes}
 use Rattle.game.proofs.Rises.{waits_ceilings, keeps_between}
 use Rattle.game.proofs.Outcomes.{owns_parts, allowed, all_outcomes}
 
@@ -106,11 +106,11 @@ module _ (g : Game) where
 
   -- a move that may be made in an own region of four clocks leads to an own position
   result_own : (s : Side) (l : ℕ) (q : List Part) (e : Option ℕ) → Own q → length q ≡ 4 → keeps g l q ≡ true → may_take g s l q e ≡ true
-      → owns g (result g s l (edge_at g e) q).position ≡ true
+      → owns g (result_of g s l (edge_at g e) q).position ≡ true
   result_own s l q None w n k h = lands l (resets_of None) q w n (keeps_plain l q k)
   result_own s l q (Some i) w n k h = at (slice_get g.edges i) h
     where
-      at : (o : Option Edge) → edge_fits g s l q o ≡ true → owns g (result g s l o q).position ≡ true
+      at : (o : Option Edge) → edge_fits g s l q o ≡ true → owns g (result_of g s l o q).position ≡ true
       at None h = let z : ◌≡◌ {A = ℕ} 0 1 = cc in let n : ⊥ = omega arith in absurd n
       at (Some d) h =
           let a = and_parts (same_side d.side s) (eqb d.from l && (holds (zone d.guard) q && keeps g d.to (carried (flags d.resets) q))) h in

@@ -4,7 +4,7 @@ use Rattle.std.specs.List.{slice_get}
 use Rattle.arena.specs.declared.moves.Side.TheVariants.{Them}
 use Rattle.clocks.specs.Regions.{Part, onward, waits}
 use Rattle.game.specs.declared.parts.Edge.{Edge}
-use Rattle.game.specs.Game.{Game, each, given, fits, edge_fits, result, their_edge, theirs, theirs_at, ours_at}
+use Rattle.game.specs.Game.{Game, each, given, fits, edge_fits, result_of, their_edge, theirs, theirs_at, ours_at}
 use Rattle.game.specs.Listing.{edges_from, theirs_over, theirs_after}
 use Rattle.game.specs.Theorems.{Listed, ByRegion, Beyond, ByEdge}
 
@@ -50,7 +50,7 @@ pub listed : Listed
 listed g p k e = ap (λ xs. ours_at g p.location e (waits k p.region) ++ xs) (sym (over_waits g p.location k p.region))
 
 pub by_region : ByRegion
-by_region g l k q = over k ∙ ap (λ xs. result g Them l None q ∷ xs ++ theirs_after g l k q) (sym (edges_all g l q))
+by_region g l k q = over k ∙ ap (λ xs. result_of g Them l None q ∷ xs ++ theirs_after g l k q) (sym (edges_all g l q))
   where
     over : (k : ℕ) → theirs_over g l k (Some q) ≡ theirs g l q ++ theirs_after g l k q
     over zero = sym (append-nil (theirs g l q))
@@ -74,9 +74,9 @@ by_edge g l q i = (more, λ h. let n : length g.edges - i ≡ 0 = omega arith in
 
 -- the edge at number i is at hand
 pub edge_more : (g : Game) (l : ℕ) (q : List Part) (i : ℕ) (e : Edge) → slice_get g.edges i ≡ Some e
-    → edges_from g l q i ≡ given (fits g Them l q e) (result g Them l (Some e) q) ++ edges_from g l q (i + 1)
+    → edges_from g l q i ≡ given (fits g Them l q e) (result_of g Them l (Some e) q) ++ edges_from g l q (i + 1)
 edge_more g l q i e h =
-    (by_edge g l q i).0 (below g.edges i h) ∙ ap (λ o. given (edge_fits g Them l q o) (result g Them l o q) ++ edges_from g l q (i + 1)) h
+    (by_edge g l q i).0 (below g.edges i h) ∙ ap (λ o. given (edge_fits g Them l q o) (result_of g Them l o q) ++ edges_from g l q (i + 1)) h
   where
     below : (es : List Edge) (i : ℕ) → slice_get es i ≡ Some e → i < length es
     below [] i h = let z : ◌≡◌ {A = ℕ} 0 1 = cc in omega arith

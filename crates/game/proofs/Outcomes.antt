@@ -8,7 +8,7 @@ use Rattle.arena.specs.declared.moves.Side.TheVariants.{Us, Them}
 use Rattle.arena.specs.declared.moves.Outcome.{Outcome}
 use Rattle.clocks.specs.Regions.{Part, waits}
 use Rattle.regions.specs.Code.{is_own}
-use Rattle.game.specs.Game.{Game, Place, place, last_whole, keeps, owns, result, edge_at, may_take, welcomed, legal, each, given, their_edge, theirs_at, ours_at, outcomes}
+use Rattle.game.specs.Game.{Game, Place, place, last_whole, keeps, owns, result_of, edge_at, may_take, welcomed, legal, each, given, their_edge, theirs_at, ours_at, outcomes}
 
 all_each : {A : Type 0} (P : A → Type 0) (n : ℕ) (f : ℕ → List A) → ((j : ℕ) → j < n → All P (f j)) → All P (each n f)
 all_each P zero f h = tt
@@ -57,8 +57,8 @@ allowed g s l r k e h =
 module _ (g : Game) (l : ℕ) (r : List Part) (k : ℕ) (e : Option ℕ) where
   -- what holds of our move carried out, and of each move of theirs after 0 to k steps, holds of each outcome
   pub all_outcomes : (P : Outcome Place → Type 0)
-      → ((q : List Part) → waits k r ≡ Some q → P (result g Us l (edge_at g e) q))
-      → ((j : ℕ) → j ≤ k → (q : List Part) → waits j r ≡ Some q → (f : Option ℕ) → may_take g Them l q f ≡ true → P (result g Them l (edge_at g f) q))
+      → ((q : List Part) → waits k r ≡ Some q → P (result_of g Us l (edge_at g e) q))
+      → ((j : ℕ) → j ≤ k → (q : List Part) → waits j r ≡ Some q → (f : Option ℕ) → may_take g Them l q f ≡ true → P (result_of g Them l (edge_at g f) q))
       → All P (outcomes g (place l r) k e)
   all_outcomes P us them =
       All-append P (ours_at g l e (waits k r)) (each (suc k) (λ j. theirs_at g l (waits j r))) (ours (waits k r) refl)
@@ -73,12 +73,12 @@ module _ (g : Game) (l : ℕ) (r : List Part) (k : ℕ) (e : Option ℕ) where
       there j n (Some q) i = (
         them j n q i None refl,
         all_each P (length g.edges) (their_edge g l q)
-            (λ i' _. all_given P (may_take g Them l q (Some i')) (result g Them l (edge_at g (Some i')) q) (them j n q i (Some i'))),
+            (λ i' _. all_given P (may_take g Them l q (Some i')) (result_of g Them l (edge_at g (Some i')) q) (them j n q i (Some i'))),
       )
 
   theirs_few : length g.edges ≤ 64 → (w : Option (List Part)) → length (theirs_at g l w) ≤ 65
   theirs_few m None = omega arith
-  theirs_few m (Some q) = let a = length_each_le 1 (length g.edges) (their_edge g l q) (λ i. one (may_take g Them l q (Some i)) (result g Them l (edge_at g (Some i)) q)) in omega arith
+  theirs_few m (Some q) = let a = length_each_le 1 (length g.edges) (their_edge g l q) (λ i. one (may_take g Them l q (Some i)) (result_of g Them l (edge_at g (Some i)) q)) in omega arith
     where
       one : (b : Bool) (o : Outcome Place) → length (given b o) ≤ 1
       one true o = omega arith

@@ -91,8 +91,8 @@ module _ (g : Game) where
   start = place 0 (map fresh (limits g))
 
   -- what a move of side s comes to, once the region q is reached
-  abbrev pub result : Side → ℕ → Option Edge → List Part → Outcome Place
-  result s l e q = record { position = place (to_of l e) (carried (resets_of e) q); ticked = ticks q; by = s }
+  abbrev pub result_of : Side → ℕ → Option Edge → List Part → Outcome Place
+  result_of s l e q = record { position = place (to_of l e) (carried (resets_of e) q); ticked = ticks q; by = s }
 
   -- Side s may take an edge from location l in the region q: it is that side's, leaves here, has its guard met, and
   -- enters a location whose invariant holds after the resets
@@ -139,11 +139,11 @@ given b a = cond b (a ∷ []) []
 module _ (g : Game) where
   -- their edge i in the region q, if they may take it
   abbrev pub their_edge : ℕ → List Part → ℕ → List (Outcome Place)
-  their_edge l q i = given (may_take g Them l q (Some i)) (result g Them l (edge_at g (Some i)) q)
+  their_edge l q i = given (may_take g Them l q (Some i)) (result_of g Them l (edge_at g (Some i)) q)
 
   -- their plain wait into the region q, and their edges there, by number
   abbrev pub theirs : ℕ → List Part → List (Outcome Place)
-  theirs l q = result g Them l None q ∷ each (length g.edges) (their_edge l q)
+  theirs l q = result_of g Them l None q ∷ each (length g.edges) (their_edge l q)
 
   abbrev pub theirs_at : ℕ → Option (List Part) → List (Outcome Place)
   theirs_at l None = []
@@ -151,7 +151,7 @@ module _ (g : Game) where
 
   abbrev pub ours_at : ℕ → Option ℕ → Option (List Part) → List (Outcome Place)
   ours_at l e None = []
-  ours_at l e (Some q) = result g Us l (edge_at g e) q ∷ []
+  ours_at l e (Some q) = result_of g Us l (edge_at g e) q ∷ []
 
   -- what our legal move of k steps can lead to: our move carried out, and then theirs after 0 to k steps
   abbrev pub outcomes : Place → ℕ → Option ℕ → List (Outcome Place)

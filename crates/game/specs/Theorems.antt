@@ -6,7 +6,7 @@ use Rattle.clocks.specs.Regions.{Clock, Part, region_of, waits}
 use Rattle.game.specs.declared.bounds.Bounds.{Bounds}
 use Rattle.game.specs.declared.bounds.Zone.{Zone}
 use Rattle.game.specs.Intervals.{zone, inhabited, bounded, holds, inside, insides}
-use Rattle.game.specs.Game.{Game, Place, place, limits, owns, welcome, legal, result, their_edge, ours_at, outcomes, suits, sound}
+use Rattle.game.specs.Game.{Game, Place, place, limits, owns, welcome, legal, result_of, their_edge, ours_at, outcomes, suits, sound}
 use Rattle.game.specs.Start.{well_made, starts_at_zero}
 use Rattle.game.specs.Listing.{edges_from, theirs_over, theirs_after}
 
@@ -54,7 +54,7 @@ Listed =
 abbrev pub ByRegion : Type 0
 ByRegion =
     (g : Game) (l k : ℕ) (q : List Part)
-    → theirs_over g l k (Some q) ≡ result g Them l None q ∷ edges_from g l q 0 ++ theirs_after g l k q
+    → theirs_over g l k (Some q) ≡ result_of g Them l None q ∷ edges_from g l q 0 ++ theirs_after g l k q
 
 -- where there is no region there is nothing; and edges come one by one
 abbrev pub Beyond : Type 0

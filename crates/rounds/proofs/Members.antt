@@ -7,7 +7,7 @@ use Rattle.arena.specs.declared.moves.Side.{Side}
 use Rattle.arena.specs.declared.moves.Side.TheVariants.{Us, Them}
 use Rattle.arena.specs.declared.moves.Outcome.{Outcome}
 use Rattle.clocks.specs.Regions.{Part, waits}
-use Rattle.game.specs.Game.{Game, Place, place, result, edge_fits, edge_at, may_take, each, their_edge, theirs, theirs_at, ours_at, outcomes}
+use Rattle.game.specs.Game.{Game, Place, place, result_of, edge_fits, edge_at, may_take, each, their_edge, theirs, theirs_at, ours_at, outcomes}
 use Rattle.game.proofs.Sounds.{nth_all}
 use Rattle.game.proofs.Outcomes.{all_outcomes}
 
@@ -40,29 +40,29 @@ take_there g s l q i h = elim (cases_lt i (length g.edges)) [
 ]
 
 module _ (g : Game) (l : ℕ) (r : List Part) (k : ℕ) (e : Option ℕ) where
-  pub ours_in : (q : List Part) → waits k r ≡ Some q → Member (outcomes g (place l r) k e) (result g Us l (edge_at g e) q)
+  pub ours_in : (q : List Part) → waits k r ≡ Some q → Member (outcomes g (place l r) k e) (result_of g Us l (edge_at g e) q)
   ours_in q w =
-      member_left (ours_at g l e (waits k r)) (each (suc k) (λ j. theirs_at g l (waits j r))) (result g Us l (edge_at g e) q)
+      member_left (ours_at g l e (waits k r)) (each (suc k) (λ j. theirs_at g l (waits j r))) (result_of g Us l (edge_at g e) q)
       (rw w (0, refl))
 
   pub theirs_in : (q : List Part) (j : ℕ) (f : Option ℕ) → j ≤ k → waits j r ≡ Some q → may_take g Them l q f ≡ true
-      → Member (outcomes g (place l r) k e) (result g Them l (edge_at g f) q)
+      → Member (outcomes g (place l r) k e) (result_of g Them l (edge_at g f) q)
   theirs_in q j f n w h =
-      member_right (ours_at g l e (waits k r)) (each (suc k) (λ j. theirs_at g l (waits j r))) (result g Them l (edge_at g f) q)
-      (member_each (suc k) (λ j. theirs_at g l (waits j r)) j (result g Them l (edge_at g f) q) (omega arith) (rw w (here f h)))
+      member_right (ours_at g l e (waits k r)) (each (suc k) (λ j. theirs_at g l (waits j r))) (result_of g Them l (edge_at g f) q)
+      (member_each (suc k) (λ j. theirs_at g l (waits j r)) j (result_of g Them l (edge_at g f) q) (omega arith) (rw w (here f h)))
     where
-      here : (f : Option ℕ) → may_take g Them l q f ≡ true → Member (theirs g l q) (result g Them l (edge_at g f) q)
+      here : (f : Option ℕ) → may_take g Them l q f ≡ true → Member (theirs g l q) (result_of g Them l (edge_at g f) q)
       here None h = (0, refl)
       here (Some i) h =
-          let m = member_each (length g.edges) (their_edge g l q) i (result g Them l (edge_at g (Some i)) q) (take_there g Them l q i h) (rw h (0, refl)) in
+          let m = member_each (length g.edges) (their_edge g l q) i (result_of g Them l (edge_at g (Some i)) q) (take_there g Them l q i h) (rw h (0, refl)) in
           (suc m.0, m.1)
 
   -- an outcome is our move carried out, or a move of theirs after at most k steps
   abbrev pub Ours : Outcome Place → Type 0
-  Ours o = (q : List Part) × (waits k r ≡ Some q) × (o ≡ result g Us l (edge_at g e) q)
+  Ours o = (q : List Part) × (waits k r ≡ Some q) × (o ≡ result_of g Us l (edge_at g e) q)
 
   abbrev pub Theirs : Outcome Place → Type 0
-  Theirs o = (j : ℕ) × (j ≤ k) × (q : List Part) × (waits j r ≡ Some q) × (f : Option ℕ) × (may_take g Them l q f ≡ true) × (o ≡ result g Them l (edge_at g f) q)
+  Theirs o = (j : ℕ) × (j ≤ k) × (q : List Part) × (waits j r ≡ Some q) × (f : Option ℕ) × (may_take g Them l q f ≡ true) × (o ≡ result_of g Them l (edge_at g f) q)
 
   pub outcome_cases : (o : Outcome Place) → Member (outcomes g (place l r) k e) o → Ours o ⊎ Theirs o
   outcome_cases o m =

@@ -9,7 +9,7 @@ use Rattle.clocks.specs.Regions.{Clock, Part, clock, spot, ranked, region_of, wa
 use Rattle.clocks.proofs.Main.{scales_stand, earlier_stand, waits_stand}
 use Rattle.clocks.proofs.Lists.{map_same}
 use Rattle.clocks.proofs.Spots.{spot_past}
-use Rattle.game.specs.Game.{Game, place, keeps, edge_at, result, may_take, welcome, outcomes, sound}
+use Rattle.game.specs.Game.{Game, place, keeps, edge_at, result_of, may_take, welcome, outcomes, sound}
 use Rattle.game.proofs.Sounds.{sound_ceilings}
 use Rattle.game.proofs.Rises.{keeps_between}
 use Rattle.game.proofs.Outcomes.{owns_parts, allowed}
@@ -123,7 +123,7 @@ playable g s D l xs k e z c h i o n =
             t.2,
             t.2,
             record { hits = hit; answers = and_from (keeps g l (region_of E (later t.0 ys))) true (ap (keeps g l) t.1 ∙ a.kept) refl },
-            round_us g E l ys t.0 e None ∙ round_is g E l ys y d Us t.0 e ∙ ap (result g Us l (edge_at g e)) (sym w) ∙ sym u.2,
+            round_us g E l ys t.0 e None ∙ round_is g E l ys y d Us t.0 e ∙ ap (result_of g Us l (edge_at g e)) (sym w) ∙ sym u.2,
           )
       | inr u ↦
           let p = t.3 u.0 u.1 in
@@ -140,6 +140,6 @@ playable g s D l xs k e z c h i o n =
               hits = hit;
               answers = ap (welcome g Them l u.4) (sym w) ∙ and_from (keeps g l u.2) (may_take g Them l u.2 u.4) m u.5;
             },
-            round_them g E l ys t.0 p.0 e u.4 p.1 ∙ round_is g E l ys y d Them p.0 u.4 ∙ ap (result g Them l (edge_at g u.4)) (sym w) ∙ sym u.6,
+            round_them g E l ys t.0 p.0 e u.4 p.1 ∙ round_is g E l ys y d Them p.0 u.4 ∙ ap (result_of g Them l (edge_at g u.4)) (sym w) ∙ sym u.6,
           )
     ]

@@ -6,7 +6,7 @@ use Rattle.arena.specs.declared.moves.Side.{Side}
 use Rattle.clocks.specs.Regions.{Clock, clock, spot, seen, classed, ranked, region_of, later, finer, zeroed}
 use Rattle.clocks.proofs.Main.{holds_stand}
 use Rattle.clocks.proofs.Resets.{guards_stand, restarts_stand}
-use Rattle.game.specs.Game.{Game, last_whole, ticks, carried, resets_of, edge_at, result}
+use Rattle.game.specs.Game.{Game, last_whole, ticks, carried, resets_of, edge_at, result_of}
 use Rattle.rounds.specs.Rounds.{last_reading, ticked, delayed, readings_after, round_by}
 use Rattle.rounds.specs.Theorems.{ClocksOf}
 
@@ -52,5 +52,5 @@ module _ (g : Game) where
         ∙ ap (λ q. ranked (zeroed (resets_of (edge_at g e) ++ ticked D (delayed D xs d) ∷ []) q)) (holds_stand D (later d xs) z)
         ∙ ap (λ b. ranked (zeroed (resets_of (edge_at g e) ++ b ∷ []) (region_of D (later d xs)))) (sym (tick_delayed d))
 
-    pub round_is : (s : Side) (d : ℕ) (e : Option ℕ) → round_by g D l xs s d e ≡ result g s l (edge_at g e) (region_of D (later d xs))
+    pub round_is : (s : Side) (d : ℕ) (e : Option ℕ) → round_by g D l xs s d e ≡ result_of g s l (edge_at g e) (region_of D (later d xs))
     round_is s d e = let t = tick_delayed d in let r = region_after d e in cc

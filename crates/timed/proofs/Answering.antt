@@ -6,14 +6,14 @@ use Rattle.arena.specs.declared.moves.Move.{Move}
 use Rattle.arena.specs.declared.moves.Outcome.{Outcome}
 use Rattle.clocks.specs.Regions.{Part, waits}
 use Rattle.game.specs.declared.parts.TimedPosition.{TimedPosition}
-use Rattle.game.specs.Game.{Game, owns, welcomed, legal, may_take, edge_at, result}
+use Rattle.game.specs.Game.{Game, owns, welcomed, legal, may_take, edge_at, result_of}
 use Rattle.game.specs.Timed.{place_of, in_code}
 use Rattle.game.proofs.Outcomes.{allowed}
 use Rattle.timed.specs.Carried.{resulting, reached, carried_out}
 
 -- a move without an edge
-pub taken_plainly : (g : Game) (s : Side) (l : ℕ) (q : List Part) (e : Option ℕ) (o : Outcome TimedPosition) → e ≡ None → o ≡ in_code (result g s l None q)
-    → Some o ≡ cond (may_take g s l q e) (Some (in_code (result g s l (edge_at g e) q))) None
+pub taken_plainly : (g : Game) (s : Side) (l : ℕ) (q : List Part) (e : Option ℕ) (o : Outcome TimedPosition) → e ≡ None → o ≡ in_code (result_of g s l None q)
+    → Some o ≡ cond (may_take g s l q e) (Some (in_code (result_of g s l (edge_at g e) q))) None
 taken_plainly g s l q None o i h = ap Some h
 taken_plainly g s l q (Some n) o i h = let z : ◌≡◌ {A = ℕ} 0 1 = cc in let w : ⊥ = omega arith in absurd w
 

@@ -10,7 +10,7 @@ use Rattle.arena.specs.Meaning.{handed}
 use Rattle.clocks.specs.Regions.{Part, next}
 use Rattle.game.specs.declared.parts.Edge.{Edge}
 use Rattle.game.specs.declared.parts.TimedPosition.{TimedPosition}
-use Rattle.game.specs.Game.{Game, Place, fits, given, legal, result, edge_at, their_edge, ours_at, outcomes, sound}
+use Rattle.game.specs.Game.{Game, Place, fits, given, legal, result_of, edge_at, their_edge, ours_at, outcomes, sound}
 use Rattle.game.specs.Listing.{edges_from, theirs_over, theirs_after}
 use Rattle.game.specs.Timed.{place_of, in_code, timed_meaning}
 use Rattle.game.proofs.Outcomes.{allowed}
@@ -32,9 +32,9 @@ module _ (g : Game) (p : TimedPosition) (m : Move) where
   first_listed o q i e =
       let l : legal g Us (place_of g p) m.steps m.edge ≡ true = sym (legal_some g Us p m) ∙ ap is_some (sym e) in
       let a = allowed g Us p.location (place_of g p).region m.steps m.edge l in
-      let f : Some o ≡ Some (in_code (result g Us p.location (edge_at g m.edge) a.reached)) = rw (l, a.waited) at e in
-      let d : o ≡ in_code (result g Us p.location (edge_at g m.edge) a.reached) = cc in
-      let t : outcomes g (place_of g p) m.steps m.edge ≡ result g Us p.location (edge_at g m.edge) a.reached ∷ theirs_over g p.location m.steps (Some (place_of g p).region) =
+      let f : Some o ≡ Some (in_code (result_of g Us p.location (edge_at g m.edge) a.reached)) = rw (l, a.waited) at e in
+      let d : o ≡ in_code (result_of g Us p.location (edge_at g m.edge) a.reached) = cc in
+      let t : outcomes g (place_of g p) m.steps m.edge ≡ result_of g Us p.location (edge_at g m.edge) a.reached ∷ theirs_over g p.location m.steps (Some (place_of g p).region) =
       listed g (place_of g p) m.steps m.edge ∙ ap (λ w. ours_at g p.location m.edge w ++ theirs_over g p.location m.steps (Some (place_of g p).region)) a.waited in
       ap (λ q. o ∷ map in_code (theirs_over g p.location m.steps (Some q))) i
       ∙ ap (λ o. o ∷ map in_code (theirs_over g p.location m.steps (Some (place_of g p).region))) d
@@ -43,7 +43,7 @@ module _ (g : Game) (p : TimedPosition) (m : Move) where
 
 -- from region to region
 module _ (g : Game) (l k : ℕ) (q : List Part) where
-  pub entered : (o : Outcome TimedPosition) → o ≡ in_code (result g Them l None q)
+  pub entered : (o : Outcome TimedPosition) → o ≡ in_code (result_of g Them l None q)
       → map in_code (theirs_over g l k (Some q)) ≡ o ∷ map in_code (edges_from g l q 0 ++ theirs_after g l k q)
   entered o e = ap (map in_code) (by_region g l k q) ∙ ap (λ o. o ∷ map in_code (edges_from g l q 0 ++ theirs_after g l k q)) (sym e)
 
@@ -58,19 +58,19 @@ module _ (g : Game) (l k : ℕ) (q : List Part) where
 
 -- from edge to edge
 module _ (g : Game) (l : ℕ) (q : List Part) (i : ℕ) (e : Edge) (at : Some e ≡ slice_get g.edges i) (n : i < length g.edges) where
-  edge_there : (b : Bool) → fits g Them l q e ≡ b → their_edge g l q i ≡ given b (result g Them l (Some e) q)
+  edge_there : (b : Bool) → fits g Them l q e ≡ b → their_edge g l q i ≡ given b (result_of g Them l (Some e) q)
   edge_there b h = rw (← at, h) refl
 
-  pub edge_given : (o : Outcome TimedPosition) → Some o ≡ cond (fits g Them l q e) (Some (in_code (result g Them l (Some e) q))) None
+  pub edge_given : (o : Outcome TimedPosition) → Some o ≡ cond (fits g Them l q e) (Some (in_code (result_of g Them l (Some e) q))) None
       → map in_code (edges_from g l q i) ≡ o ∷ map in_code (edges_from g l q (i + 1))
   edge_given o h =
-      let t = some_when (fits g Them l q e) o (in_code (result g Them l (Some e) q)) h in
+      let t = some_when (fits g Them l q e) o (in_code (result_of g Them l (Some e) q)) h in
       ap (map in_code) ((by_edge g l q i).0 n ∙ ap (λ xs. xs ++ edges_from g l q (i + 1)) (edge_there true t.0))
       ∙ ap (λ o. o ∷ map in_code (edges_from g l q (i + 1))) (sym t.1)
 
-  pub edge_passed : None ≡ cond (fits g Them l q e) (Some (in_code (result g Them l (Some e) q))) None → edges_from g l q i ≡ edges_from g l q (i + 1)
+  pub edge_passed : None ≡ cond (fits g Them l q e) (Some (in_code (result_of g Them l (Some e) q))) None → edges_from g l q i ≡ edges_from g l q (i + 1)
   edge_passed h =
-      let t = none_when (fits g Them l q e) (in_code (result g Them l (Some e) q)) h in
+      let t = none_when (fits g Them l q e) (in_code (result_of g Them l (Some e) q)) h in
       (by_edge g l q i).0 n ∙ ap (λ xs. xs ++ edges_from g l q (i + 1)) (edge_there false t)
 
 -- an edge is handed out, or they have none left in this region

@@ -6,13 +6,13 @@ use Rattle.arena.specs.declared.moves.Move.{Move}
 use Rattle.arena.specs.declared.moves.Outcome.{Outcome}
 use Rattle.clocks.specs.Regions.{Part, waits}
 use Rattle.game.specs.declared.parts.TimedPosition.{TimedPosition}
-use Rattle.game.specs.Game.{Game, legal, welcomed, edge_at, result}
+use Rattle.game.specs.Game.{Game, legal, welcomed, edge_at, result_of}
 use Rattle.game.specs.Timed.{place_of, in_code}
 
 module _ (g : Game) (s : Side) where
   -- the result in the region that the wait leads to, if there is one
   abbrev pub resulting : ℕ → Move → Option (List Part) → Option (Outcome TimedPosition)
-  resulting l m w = option_map (λ q. in_code (result g s l (edge_at g m.edge) q)) w
+  resulting l m w = option_map (λ q. in_code (result_of g s l (edge_at g m.edge) q)) w
 
   -- from an own position at location l in the region r, if the move is legal there
   abbrev pub reached : ℕ → List Part → Move → Option (Outcome TimedPosition)

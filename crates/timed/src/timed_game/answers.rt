@@ -1,7 +1,7 @@
 //! Own positions, and moves of both sides.
 ghost use Rattle.std.specs.Prelude.{◌≡◌, true, ◌&&◌, is_some, IfSome, if◌then◌else◌, Some, None, ◌==◌};
 ghost use Rattle.regions.specs.Standing.{standing};
-ghost use Rattle.game.specs.Game.{Game, place, ticks, keeps, owns, last_whole, carried, flags, result, fits, may_take, edge_at, legal};
+ghost use Rattle.game.specs.Game.{Game, place, ticks, keeps, owns, last_whole, carried, flags, result_of, fits, may_take, edge_at, legal};
 ghost use Rattle.game.specs.Timed.{place_of, in_code};
 ghost use Rattle.timed.specs.Rows.{habitable};
 ghost use Rattle.timed.specs.Carried.{reached, carried_out};
@@ -28,7 +28,7 @@ const NO_RESETS: Resets = Resets {
 /// The clocks once a move is carried out where they stand: some are reset, the tick clock too if
 /// it has reached a unit.
 fn carry(clocks: Clocks, resets: Resets) -> Clocks
-    ensures* { λ r. ⌜ standing r ≡ carried (flags resets) (standing clocks) ⌝ }
+    ensures { standing result ≡ carried (flags resets) (standing clocks) }
 {
     clocks.restart(Restart {
         x: resets.x,
@@ -41,7 +41,7 @@ fn carry(clocks: Clocks, resets: Resets) -> Clocks
 /// The outcome of a move that leads to this location, by the clocks before and after it is carried
 /// out.
 fn outcome_at(by: Side, location: u8, before: Clocks, after: Clocks) -> Outcome<TimedPosition>
-    ensures* { λ r. ⌜ r ≡ in_code (record { position = place location (standing after); ticked = ticks (standing before); by = by }) ⌝ }
+    ensures { result ≡ in_code (record { position = place location (standing after); ticked = ticks (standing before); by = by }) }
 {
     Outcome {
         position: TimedPosition {
@@ -55,7 +55,7 @@ fn outcome_at(by: Side, location: u8, before: Clocks, after: Clocks) -> Outcome<
 
 /// What a plain wait comes to, once these clocks are reached.
 pub(super) fn wait_in(by: Side, location: u8, clocks: Clocks) -> Outcome<TimedPosition>
-    ensures* { λ r. ⌜ ((g : Game) → r ≡ in_code (result g by location None (standing clocks))) ⌝ }
+    ensures { (g : Game) → result ≡ in_code (result_of g by location None (standing clocks)) }
 {
     outcome_at(by, location, clocks, carry(clocks, NO_RESETS))
 }
@@ -63,7 +63,7 @@ pub(super) fn wait_in(by: Side, location: u8, clocks: Clocks) -> Outcome<TimedPo
 impl TimedGame {
     /// Whether there is such a location, and the clocks keep its invariant.
     fn keeps(&self, location: u8, clocks: Clocks) -> bool
-        ensures* { λ r. ⌜ r ≡ keeps (game_of self.now) location (standing clocks) ⌝ }
+        ensures { result ≡ keeps (game_of self.now) location (standing clocks) }
     {
         match item_at(self.locations.as_slice(), location as usize) {
             None => false,
@@ -74,15 +74,15 @@ impl TimedGame {
     /// Whether the clocks are those of an own position at this location: the tick clock has not
     /// reached a unit, and the invariant holds.
     fn is_own(&self, location: u8, clocks: Clocks) -> bool
-        ensures* { λ r. ⌜ r ≡ (last_whole (standing clocks) == 0 && keeps (game_of self.now) location (standing clocks)) ⌝ }
+        ensures { result ≡ (last_whole (standing clocks) == 0 && keeps (game_of self.now) location (standing clocks)) }
     {
         !clocks.ticked() && self.keeps(location, clocks)
     }
 
     /// The clocks of an own position.
     pub(super) fn clocks_at(&self, p: TimedPosition) -> Option<Clocks>
-        ensures* test { λ r. ⌜ is_some r ≡ owns (game_of self.now) (place_of (game_of self.now) p) ⌝ }
-        ensures* stands { λ r. ⌜ IfSome r (λ s. standing s ≡ (place_of (game_of self.now) p).region) ⌝ }
+        ensures test { is_some result ≡ owns (game_of self.now) (place_of (game_of self.now) p) }
+        ensures stands { IfSome result (λ s. standing s ≡ (place_of (game_of self.now) p).region) }
     {
         let clocks = Clocks::new(self.ceilings, p.region)?;
         if self.is_own(p.location, clocks) {
@@ -101,7 +101,7 @@ impl TimedGame {
         edge: Edge,
     ) -> Option<Outcome<TimedPosition>>
         requires { habitable edge.guard ≡ true }
-        ensures* { λ r. ⌜ r ≡ (if fits (game_of self.now) by location (standing clocks) edge then Some (in_code (result (game_of self.now) by location (Some edge) (standing clocks))) else None) ⌝ }
+        ensures { result ≡ (if fits (game_of self.now) by location (standing clocks) edge then Some (in_code (result_of (game_of self.now) by location (Some edge) (standing clocks))) else None) }
     {
         if edge.side != by || edge.from != location || !is_met(edge.guard, clocks) {
             return None;
@@ -121,7 +121,7 @@ impl TimedGame {
         clocks: Clocks,
         edge: Option<u16>,
     ) -> Option<Outcome<TimedPosition>>
-        ensures* { λ r. ⌜ r ≡ (if may_take (game_of self.now) by location (standing clocks) edge then Some (in_code (result (game_of self.now) by location (edge_at (game_of self.now) edge) (standing clocks))) else None) ⌝ }
+        ensures { result ≡ (if may_take (game_of self.now) by location (standing clocks) edge then Some (in_code (result_of (game_of self.now) by location (edge_at (game_of self.now) edge) (standing clocks))) else None) }
     {
         let Some(number) = edge else {
             return Some(wait_in(by, location, clocks));
@@ -138,7 +138,7 @@ impl TimedGame {
         clocks: Clocks,
         m: Move,
     ) -> Option<Outcome<TimedPosition>>
-        ensures* { λ r. ⌜ r ≡ reached (game_of self.now) by location (standing clocks) m ⌝ }
+        ensures { result ≡ reached (game_of self.now) by location (standing clocks) m }
     {
         if m.steps > MOST_STEPS {
             return None;
@@ -152,8 +152,8 @@ impl TimedGame {
 
     /// What a move of this side comes to, if it is legal.
     pub fn carry_out(&self, by: Side, p: TimedPosition, m: Move) -> Option<Outcome<TimedPosition>>
-        ensures* test { λ r. ⌜ is_some r ≡ legal (game_of self.now) by (place_of (game_of self.now) p) m.steps m.edge ⌝ }
-        ensures* result { λ r. ⌜ r ≡ carried_out (game_of self.now) by p m ⌝ }
+        ensures test { is_some result ≡ legal (game_of self.now) by (place_of (game_of self.now) p) m.steps m.edge }
+        ensures result { result ≡ carried_out (game_of self.now) by p m }
     {
         let clocks = self.clocks_at(p)?;
         self.carry_out_from(by, p.location, clocks, m)
@@ -161,7 +161,7 @@ impl TimedGame {
 
     /// Whether this is a legal move of this side.
     pub fn is_legal(&self, by: Side, p: TimedPosition, m: Move) -> bool
-        ensures* { λ r. ⌜ r ≡ legal (game_of self.now) by (place_of (game_of self.now) p) m.steps m.edge ⌝ }
+        ensures { result ≡ legal (game_of self.now) by (place_of (game_of self.now) p) m.steps m.edge }
     {
         self.carry_out(by, p, m).is_some()
     }
