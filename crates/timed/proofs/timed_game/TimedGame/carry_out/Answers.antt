@@ -6,6 +6,6 @@ use Rattle.timed.proofs.timed_game.TimedGame.carry_out.Goals as goal
 
 pub returns : goal.returns
 returns c =
-    let e = c.carry-out-from.ensures
-    ∙ carried_from (game_of c.args.self.now) c.args.by c.args.p c.args.m (standing c.in-ok-clocks.clocks) c.in-ok-clocks.ensures.test c.in-ok-clocks.ensures.stands in
+    let e = c.carry_out_from.ensures
+    ∙ carried_from (game_of c.args.self.now) c.args.by c.args.p c.args.m (standing c.in_ok-clocks.clocks) c.in_ok-clocks.ensures.test c.in_ok-clocks.ensures.stands in
     record { test = ap is_some e ∙ legal_some (game_of c.args.self.now) c.args.by c.args.p c.args.m; result = e }

@@ -7,8 +7,8 @@ use Rattle.timed.proofs.Tables.{guard_checked}
 use Rattle.timed.proofs.Listing.{edge_given, edge_passed}
 use Rattle.timed.proofs.timed_game.TimedGame.next_edge.Goals as goal
 
-pub take-edge-requires : goal.take-edge-requires
-take-edge-requires c = guard_checked (game_of c.args.self.now) c.args.self.now.ok c.loop-from.from c.index-edge.result.now (read_nth (vec_items c.args.self.now.edges) c.loop-from.from c.index-edge.result.now (omega arith) c.index-edge.ensures)
+pub take_edge-requires : goal.take_edge-requires
+take_edge-requires c = guard_checked (game_of c.args.self.now) c.args.self.now.ok c.loop-from.from c.index-edge.result.now (read_nth (vec_items c.args.self.now.edges) c.loop-from.from c.index-edge.result.now (omega arith) c.index-edge.ensures)
 
 pub returns-in-Some : goal.returns-in-Some
 returns-in-Some c =
@@ -18,4 +18,4 @@ returns-in-Some c =
 pub loop-from-preserved : goal.loop-from-preserved
 loop-from-preserved c =
     c.loop-from.invariant
-    ∙ edge_passed (game_of c.args.self.now) c.args.location (standing c.args.clocks) c.loop-from.from c.index-edge.result.now (read_nth (vec_items c.args.self.now.edges) c.loop-from.from c.index-edge.result.now (omega arith) c.index-edge.ensures) (omega arith) c.in-default.ensures
+    ∙ edge_passed (game_of c.args.self.now) c.args.location (standing c.args.clocks) c.loop-from.from c.index-edge.result.now (read_nth (vec_items c.args.self.now.edges) c.loop-from.from c.index-edge.result.now (omega arith) c.index-edge.ensures) (omega arith) c.in_default.ensures

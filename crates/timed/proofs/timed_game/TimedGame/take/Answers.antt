@@ -6,11 +6,11 @@ use Rattle.timed.proofs.Tables.{guard_checked}
 use Rattle.timed.proofs.Answering.{taken_plainly}
 use Rattle.timed.proofs.timed_game.TimedGame.take.Goals as goal
 
-pub returns-in-default : goal.returns-in-default
-returns-in-default c =
-    taken_plainly (game_of c.args.self.now) c.args.by c.args.location (standing c.args.clocks) c.args.edge c.wait-in.result c.in-default.is (c.wait-in.ensures (game_of c.args.self.now))
+pub returns-in_default : goal.returns-in_default
+returns-in_default c =
+    taken_plainly (game_of c.args.self.now) c.args.by c.args.location (standing c.args.clocks) c.args.edge c.wait_in.result c.in_default.is (c.wait_in.ensures (game_of c.args.self.now))
 
-pub take-edge-requires : goal.take-edge-requires
-take-edge-requires c =
-    guard_checked (game_of c.args.self.now) c.args.self.now.ok c.in-Some.number c.in-ok-edge.edge
-    (c.in-ok-edge.ensures ∙ ap (λ xs. slice_get xs c.in-Some.number) c.as-slice.ensures.value)
+pub take_edge-requires : goal.take_edge-requires
+take_edge-requires c =
+    guard_checked (game_of c.args.self.now) c.args.self.now.ok c.in-Some.number c.in_ok-edge.edge
+    (c.in_ok-edge.ensures ∙ ap (λ xs. slice_get xs c.in-Some.number) c.as_slice.ensures.value)
