@@ -1,5 +1,5 @@
 -- A text cut at a separator.
-use Rattle.std.proofs.Common.{◌≡◌, ℕ, suc, ◌+◌, ◌-◌, ◌<◌, ◌≤◌, true, false, cond, eqb, List, [], ◌∷◌, ◌++◌, length, get_or, take, drop, Some, None, Option, unwrap_or, sym, refl, ap, ◌∙◌, append_assoc, append_nil, arith, lit<, lit≤}
+use Rattle.std.proofs.Common.{◌≡◌, ℕ, suc, ◌+◌, ◌-◌, ◌<◌, ◌≤◌, true, false, cond, eqb, List, [], ◌∷◌, ◌++◌, length, get_or, take, drop, Some, None, Option, unwrap_or, sym, refl, ap, ◌∙◌, append_assoc, append-nil, arith, lit<, lit≤}
 use Rattle.std.proofs.lemmas.List.{at_drop_more, at_drop_all, take_more, take_all}
 use Rattle.std.proofs.lemmas.Bool.{cond-true, cond-false, cond_both, eq-eqb, ne_eqb}
 use Rattle.casetext.specs.Text.{onto, parted, before, behind}
@@ -21,13 +21,13 @@ module _ (sep : ℕ) (bs : List ℕ) (i : ℕ) (h : Clear sep bs i) where
   pub clear_found : i < length bs → get_or bs i 0 ≡ sep → (take i bs ≡ before sep bs) × (Some (drop (i + 1) bs) ≡ behind sep bs)
   clear_found l e =
       let on = eq-eqb _ _ e in (
-        sym (h.front ∙ ap (λ x. take i bs ++ x) (at_drop_more (before sep) bs i 0 l ∙ cond-true _ _ _ on) ∙ append_nil (take i bs)),
+        sym (h.front ∙ ap (λ x. take i bs ++ x) (at_drop_more (before sep) bs i 0 l ∙ cond-true _ _ _ on) ∙ append-nil (take i bs)),
         sym (h.rest ∙ at_drop_more (behind sep) bs i 0 l ∙ cond-true _ _ _ on),
       )
 
   pub clear_all : length bs ≤ i → (bs ≡ before sep bs) × (None ≡ behind sep bs)
   clear_all l = (
-    sym (h.front ∙ ap (λ x. take i bs ++ x) (at_drop_all (before sep) bs i l) ∙ append_nil (take i bs) ∙ take_all i bs l),
+    sym (h.front ∙ ap (λ x. take i bs ++ x) (at_drop_all (before sep) bs i l) ∙ append-nil (take i bs) ∙ take_all i bs l),
     sym (h.rest ∙ at_drop_all (behind sep) bs i l),
   )
 

@@ -12,9 +12,9 @@ pub loop-preserved : goal.loop-preserved
 loop-preserved c =
     c.loop.invariant ∙ field_more 9 c.loop.rest.now (c.args.i - c.loop.counter) (c.args.i - (c.loop.counter + 1)) _ (omega arith) (sym c.cut.ensures.rest ∙ ap (option_map (λ x. x.now)) c.in-Some.is)
 
-pub returns-in-default : goal.returns-in-default
-returns-in-default c =
-    sym (c.loop.invariant ∙ field_more 9 c.loop.rest.now (c.args.i - c.loop.counter) (c.args.i - (c.loop.counter + 1)) _ (omega arith) (sym c.cut.ensures.rest ∙ ap (option_map (λ x. x.now)) c.in-default.is))
+pub returns-in_default : goal.returns-in_default
+returns-in_default c =
+    sym (c.loop.invariant ∙ field_more 9 c.loop.rest.now (c.args.i - c.loop.counter) (c.args.i - (c.loop.counter + 1)) _ (omega arith) (sym c.cut.ensures.rest ∙ ap (option_map (λ x. x.now)) c.in_default.is))
 
 pub returns : goal.returns
 returns c = c.cut-2.ensures.front ∙ sym (c.loop.invariant ∙ field_here 9 c.loop.rest.now (c.args.i - c.loop.counter) _ (omega arith) refl)

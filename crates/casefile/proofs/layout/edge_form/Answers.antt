@@ -7,8 +7,8 @@ use Rattle.casefile.proofs.layout.edge_form.Goals as goal
 pub bounds-ceilings-i : goal.bounds-ceilings-i
 bounds-ceilings-i c = omega (arith, length-map c.args.ceilings.now Interval)
 
-pub returns-in-default : goal.returns-in-default
-returns-in-default c =
+pub returns-in_default : goal.returns-in_default
+returns-in_default c =
     let cs = c.args.ceilings.now in
     let end = End c.args.locations in
     let low : 4 ≤ c.args.i = omega arith in

@@ -11,7 +11,7 @@ use Rattle.casefile.proofs.layout.form_at.Goals as goal
 pub bounds-ceilings-i : goal.bounds-ceilings-i
 bounds-ceilings-i c =
     let s = said c.args.draft.now in
-    omega (arith, ap (λ k. length (forms s k)) c.in-Loc.is, length_loc s, ap length c.as-slice-ceilings.ensures.value)
+    omega (arith, ap (λ k. length (forms s k)) c.in-Loc.is, length_loc s, ap length c.as_slice-ceilings.ensures.value)
 
 pub returns-in-Loc-2 : goal.returns-in-Loc-2
 returns-in-Loc-2 c =
@@ -19,7 +19,7 @@ returns-in-Loc-2 c =
     let i = c.args.i in
     let low : 2 ≤ i = omega arith in
     let high : i < 2 + length s.ceilings = omega (arith, ap (λ k. length (forms s k)) c.in-Loc.is, length_loc s) in
-    ap (λ cs. Interval (get_or cs (i - 2) 0)) c.as-slice-ceilings.ensures.value
+    ap (λ cs. Interval (get_or cs (i - 2) 0)) c.as_slice-ceilings.ensures.value
     ∙ sym (interval_at (Head (out_of_place s Loc) ∷ Number 0 max_priority ∷ []) s.ceilings 2 i Owner refl low high)
     ∙ ap (λ k. get_or (forms s k) i Owner) (sym c.in-Loc.is)
 
@@ -27,9 +27,9 @@ pub returns-in-Edge : goal.returns-in-Edge
 returns-in-Edge c =
     let s = said c.args.draft.now in
     let i = c.args.i in
-    let cs = c.as-slice-ceilings.ensures.value in
+    let cs = c.as_slice-ceilings.ensures.value in
     let n = c.len.ensures ∙ c.args.draft.now.locations.ok.0 in
-    c.edge-form.ensures
+    c.edge_form.ensures
     ∙ (λ j. get_or (edge_forms (n j) (cs j)) (i - 1) Owner)
     ∙ sym (get_or-append_right (Head (out_of_place s Edge) ∷ []) (edge_forms (length s.locations) s.ceilings) 1 i Owner refl (omega arith))
     ∙ ap (λ k. get_or (forms s k) i Owner) (sym c.in-Edge.is)

@@ -5,22 +5,22 @@ use Rattle.casetext.proofs.Layouts.{row_standing, row_end_at, row_rank}
 use Rattle.casefile.proofs.layout.row_form.Goals as goal
 use Rattle.casefile.proofs.layout.row_form.Goals.{then-i-steps+else-i-eq0, else-i-steps}
 
-pub returns-in-default : goal.returns-in-default
-returns-in-default c =
-    c.up-to-in-default.ensures ∙ sym (row_standing c.args.ceilings.now c.args.i Owner (omega arith) c.if-i-steps.true ∙ cond-true _ _ _ (eq-eqb _ 0 c.if-i-eq0.true))
+pub returns-in_default : goal.returns-in_default
+returns-in_default c =
+    c.up_to-in_default.ensures ∙ sym (row_standing c.args.ceilings.now c.args.i Owner (omega arith) c.if-i-steps.true ∙ cond-true _ _ _ (eq-eqb _ 0 c.if-i-eq0.true))
 
-pub returns-in-default-2 : goal.returns-in-default-2
-returns-in-default-2 c =
+pub returns-in_default-2 : goal.returns-in_default-2
+returns-in_default-2 c =
     elim c.if-i-steps.branch [
-      | then-i-steps+else-i-eq0 w ↦ c.up-to-in-default-2.ensures ∙ sym (row_standing c.args.ceilings.now c.args.i Owner (omega arith) c.if-i-steps-2.true ∙ cond-false _ _ _ (ne_eqb _ 0 w.if-i-eq0.false))
+      | then-i-steps+else-i-eq0 w ↦ c.up_to-in_default-2.ensures ∙ sym (row_standing c.args.ceilings.now c.args.i Owner (omega arith) c.if-i-steps-2.true ∙ cond-false _ _ _ (ne_eqb _ 0 w.if-i-eq0.false))
       | else-i-steps w ↦ absurd (omega arith)
     ]
 
-pub returns-in-default-3 : goal.returns-in-default-3
-returns-in-default-3 c = c.up-to-in-default-3.ensures ∙ sym (row_end_at c.args.ceilings.now c.args.i Owner 0 (omega arith))
+pub returns-in_default-3 : goal.returns-in_default-3
+returns-in_default-3 c = c.up_to-in_default-3.ensures ∙ sym (row_end_at c.args.ceilings.now c.args.i Owner 0 (omega arith))
 
-pub returns-in-default-4 : goal.returns-in-default-4
-returns-in-default-4 c = sym (row_end_at c.args.ceilings.now c.args.i Owner 1 (omega arith))
+pub returns-in_default-4 : goal.returns-in_default-4
+returns-in_default-4 c = sym (row_end_at c.args.ceilings.now c.args.i Owner 1 (omega arith))
 
-pub returns-in-default-5 : goal.returns-in-default-5
-returns-in-default-5 c = c.up-to-in-default-5.ensures ∙ sym (row_rank c.args.ceilings.now c.args.i Owner (omega arith) c.requires.1)
+pub returns-in_default-5 : goal.returns-in_default-5
+returns-in_default-5 c = c.up_to-in_default-5.ensures ∙ sym (row_rank c.args.ceilings.now c.args.i Owner (omega arith) c.requires.1)

@@ -14,14 +14,14 @@ loop-i-preserved c =
     let fs = fields c.args.line.now in
     let n = c.args.number in
     let i = c.loop-i.i in
-    let found = c.field-fault-fault.ensures ∙ (λ j. wrong n (i + 1) (c.form-at-form.ensures j) (c.nth-field.ensures j)) in
+    let found = c.field_fault-fault.ensures ∙ (λ j. wrong n (i + 1) (c.form_at-form.ensures j) (c.nth_field.ensures j)) in
     c.loop-i.invariant ∙ wrongs_more n (i + 1) ms fs i Owner (omega arith) (omega arith) c.loop-i.least
-    ∙ ap (λ x. lesser x (wrongs n (i + 1 + 1) (drop (i + 1) ms) (drop (i + 1) fs))) (sym (c.lesser-fault-least.ensures ∙ ap (lesser c.loop-i.least) found))
+    ∙ ap (λ x. lesser x (wrongs n (i + 1 + 1) (drop (i + 1) ms) (drop (i + 1) fs))) (sym (c.lesser_fault-least.ensures ∙ ap (lesser c.loop-i.least) found))
 
 pub returns : goal.returns
 returns c =
     let ms = forms (said c.args.draft.now) c.args.kind in
     let fs = fields c.args.line.now in
-    let full : length fs ≡ length ms = sym c.count-fields-present.ensures.count ∙ c.if-present-needed.false ∙ c.fields-needed-needed.ensures in
+    let full : length fs ≡ length ms = sym c.count_fields-present.ensures.count ∙ c.if-present-needed.false ∙ c.fields_needed-needed.ensures in
     let all = wrongs_all c.args.number (c.loop-i.i + 1) ms (drop c.loop-i.i fs) c.loop-i.i (omega arith) in
     sym (cond-true _ _ _ (eq-eqb _ _ full) ∙ c.loop-i.invariant ∙ ap (lesser c.loop-i.least) all ∙ lesser_none _)

@@ -5,8 +5,8 @@ use Rattle.casetext.proofs.Faults.{fine, in_place}
 use Rattle.casefile.specs.Draft.{said}
 use Rattle.casefile.proofs.lines.read_line.Goals as goal
 
-pub add-line-requires : goal.add-line-requires
-add-line-requires c =
+pub add_line-requires : goal.add_line-requires
+add_line-requires c =
     let s = said c.args.draft.now in
     let fs = fields c.args.line.now in
-    in_place s c.in-Some.kind fs (fine c.args.number (forms s c.in-Some.kind) fs (sym c.line-fault.ensures ∙ c.in-default-line-fault.is))
+    in_place s c.in-Some.kind fs (fine c.args.number (forms s c.in-Some.kind) fs (sym c.line_fault.ensures ∙ c.in_default-line_fault.is))
