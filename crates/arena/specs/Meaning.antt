@@ -1,6 +1,6 @@
 -- An arena by its answers, and the laws that they keep.
-use Rattle.std.specs.Prelude.{◌≡◌, ℕ, ◌<◌, ◌≤◌, Bool, true, false, List, [], ◌∷◌, length, Some, None, Decides, Option}
-use Rattle.std.specs.List.{AllByRecursion as All}
+use Rattle.std.specs.Prelude.{◌≡◌, ℕ, ◌≤◌, Bool, true, false, List, [], ◌∷◌, length, Some, None, Decides, Option}
+use Rattle.std.specs.List.{AllByRecursion}
 use Rattle.arena.specs.declared.moves.Move.{Move}
 use Rattle.arena.specs.declared.moves.Outcome.{Outcome}
 
@@ -25,7 +25,7 @@ pub record Lawful {P : Type 0} (m : Meaning P) : Type 0 where
   pub stands : (p : P) (v : Move) → m.legal p v ≡ true → m.owns p ≡ true
   pub waits : (p : P) (v : Move) → m.legal p v ≡ true → v.steps ≤ 96
   pub counts : (p : P) (v : Move) → m.legal p v ≡ true → (1 ≤ length (m.outcomes p v)) × (length (m.outcomes p v) ≤ 65535)
-  pub leads : (p : P) (v : Move) → m.legal p v ≡ true → All (λ o. m.owns o.position ≡ true) (m.outcomes p v)
+  pub leads : (p : P) (v : Move) → m.legal p v ≡ true → AllByRecursion (λ o. m.owns o.position ≡ true) (m.outcomes p v)
   -- an illegal move has no outcome
   pub idle : (p : P) (v : Move) → m.legal p v ≡ false → m.outcomes p v ≡ []
   -- priorities go up to 5 and labels to 31; a position that is not its own has 0 for both

@@ -1,6 +1,6 @@
 -- What is read is sound but for the start, so that a text without a fault is refused exactly when it has no start.
 use Rattle.std.proofs.Common.{◌≡◌, ℕ, zero, suc, ◌+◌, ◌*◌, ◌<◌, ◌≤◌, Bool, true, false, cond, ◌&&◌, ◌||◌, eqb, ltb, leb, List, [], ◌∷◌, ◌++◌, map, length, get_or, drop, is_some, IfSome, Some, None, Ok, Err, Option, Result, unwrap_or, sym, refl, ap, ◌∙◌, subst, inl, inr, add-zero, arith, lit≤}
-use Rattle.std.specs.List.{AllByRecursion as All}
+use Rattle.std.specs.List.{AllByRecursion}
 use Rattle.std.proofs.ByRecursion.{All-push, All-get_or, All-append, All-map, All-weaker}
 use Rattle.std.proofs.lemmas.Slice.Eq.{bytes_eq-Decides}
 use Rattle.std.proofs.lemmas.List.{length_push, length-map, length-append, length-drop, get_or-drop, get_or_past}
@@ -8,7 +8,6 @@ use Rattle.std.proofs.lemmas.Bool.{cond-false, cond_both, eqb-true, ne_eqb, and_
 use Rattle.std.proofs.lemmas.Bool.Decides.{nat_tests}
 use Rattle.regions.specs.Code.{every, within, is_own}
 use Rattle.game.specs.declared.bounds.Bounds.{Bounds}
-use Rattle.game.specs.declared.parts.Edge as edges
 use Rattle.game.specs.Intervals.{fitting, inhabited, bounded}
 use Rattle.game.specs.Start.{well_made}
 use Rattle.game.proofs.Sounds.{sound_start}
@@ -69,7 +68,7 @@ abbrev InRange : ℕ → Type 0
 InRange c = (1 ≤ c) × (c ≤ max_ceiling)
 
 -- an interval for each clock that is there, and no field for one that is not
-clock_fits : (cs : List ℕ) (fs : List (List ℕ)) (i : ℕ) → All InRange cs → length fs ≡ length cs → Fine (map Interval cs) fs → fitting (get_or cs i 0) (bounds (get_or fs i [])) ≡ true
+clock_fits : (cs : List ℕ) (fs : List (List ℕ)) (i : ℕ) → AllByRecursion InRange cs → length fs ≡ length cs → Fine (map Interval cs) fs → fitting (get_or cs i 0) (bounds (get_or fs i [])) ≡ true
 clock_fits [] [] i r e h = refl
 clock_fits [] (f ∷ fs) i r e h = absurd (omega arith)
 clock_fits (c ∷ cs) [] i r e h = absurd h
@@ -81,7 +80,7 @@ zone_drop k fs =
     let x = get_or-drop k fs 0 [] ∙ ap (λ m. get_or fs m []) (add-zero k) in
     λ j. record { x = bounds (x j); y = bounds (get_or-drop k fs 1 [] j); z = bounds (get_or-drop k fs 2 [] j) }
 
-zone_suits : (cs : List ℕ) (k : ℕ) (fs : List (List ℕ)) → All InRange cs → length (drop k fs) ≡ length cs → Fine (map Interval cs) (drop k fs) → suits (ceilings_of cs) (zone k fs) ≡ true
+zone_suits : (cs : List ℕ) (k : ℕ) (fs : List (List ℕ)) → AllByRecursion InRange cs → length (drop k fs) ≡ length cs → Fine (map Interval cs) (drop k fs) → suits (ceilings_of cs) (zone k fs) ≡ true
 zone_suits cs k fs r e h =
     let at = λ (i : ℕ). clock_fits cs (drop k fs) i r e h in
     subst (λ z. suits (ceilings_of cs) z ≡ true) (zone_drop k fs) (and_from _ _ (at 0) (and_from _ _ (at 1) (at 2)))
@@ -97,14 +96,14 @@ no_letter (suc n) i f l h =
     let t = and_parts (eqb (length f) (suc n)) (all_letters f) (sym (cond-false _ _ _ (ne_eqb (suc n) 0 (omega arith))) ∙ h) in
     ap (λ b. eqb b reset_letter) (get_or_past f i 0 (omega (arith, eqb-true _ _ t.0)))
 
-clock_resets : (cs f : List ℕ) (i : ℕ) → All InRange cs → letters (length cs) f ≡ true → resettable (get_or cs i 0) (reset_at i f) ≡ true
+clock_resets : (cs f : List ℕ) (i : ℕ) → AllByRecursion InRange cs → letters (length cs) f ≡ true → resettable (get_or cs i 0) (reset_at i f) ≡ true
 clock_resets cs f i r h =
     elim (cases_lt i (length cs)) [
       | inl l ↦ or_left _ _ (lt-ltb 0 (get_or cs i 0) (All-get_or InRange cs i 0 l r).0)
       | inr l ↦ or_right (ltb 0 (get_or cs i 0)) _ (not_from_false _ (no_letter (length cs) i f l h))
     ]
 
-resets_fit : (cs f : List ℕ) → All InRange cs → Passes (Letters (length cs)) f → resetting (ceilings_of cs) (resets f) ≡ true
+resets_fit : (cs f : List ℕ) → AllByRecursion InRange cs → Passes (Letters (length cs)) f → resetting (ceilings_of cs) (resets f) ≡ true
 resets_fit cs f r (n, (i, e)) =
     let at = λ (i : ℕ). clock_resets cs f i r (passing _ _ e) in
     and_from _ _ (at 0) (and_from _ _ (at 1) (at 2))
@@ -145,15 +144,15 @@ ranks_in_range n fs = let at = λ (i : ℕ). value_up max_rank (get_or fs (i + 2
 -- what the lines so far have said, the start apart
 pub record InOrder (s : Said) : Type 0 where
   pub few_clocks : length s.ceilings ≤ max_clocks
-  pub ceilings : All InRange s.ceilings
+  pub ceilings : AllByRecursion InRange s.ceilings
   pub few_locations : length s.locations ≤ max_locations
-  pub locations : All (λ l. sound_location (ceilings_of s.ceilings) l ≡ true) s.locations
+  pub locations : AllByRecursion (λ l. sound_location (ceilings_of s.ceilings) l ≡ true) s.locations
   pub few_edges : length s.edges ≤ max_edges
-  pub edges : All (λ e. sound_edge (ceilings_of s.ceilings) (length s.locations) e ≡ true) s.edges
+  pub edges : AllByRecursion (λ e. sound_edge (ceilings_of s.ceilings) (length s.locations) e ≡ true) s.edges
   pub few_rows : length s.rows ≤ max_rows
-  pub rows : All RowInRange s.rows
+  pub rows : AllByRecursion RowInRange s.rows
   pub level : length s.ranks ≡ length s.rows
-  pub ranks : All RanksInRange s.ranks
+  pub ranks : AllByRecursion RanksInRange s.ranks
 
 none : {X : Type 0} (xs : List X) → some xs ≡ false → xs ≡ []
 none [] e = refl
@@ -176,9 +175,9 @@ module _ (s : Said) (o : InOrder s) (fs : List (List ℕ)) where
         few_clocks = simp length_push (omega arith);
         ceilings = All-push InRange s.ceilings _ o.ceilings (value_down 1 max_ceiling (get_or fs 1 []) (fine_at (forms s Clock) fs 1 Owner h (omega arith)), value_up max_ceiling (get_or fs 1 []));
         few_locations = o.few_locations;
-        locations = subst (All (λ l. sound_location (ceilings_of cs) l ≡ true)) (sym l) tt;
+        locations = subst (AllByRecursion (λ l. sound_location (ceilings_of cs) l ≡ true)) (sym l) tt;
         few_edges = o.few_edges;
-        edges = subst (All (λ e. sound_edge (ceilings_of cs) n e ≡ true)) (sym e) tt;
+        edges = subst (AllByRecursion (λ e. sound_edge (ceilings_of cs) n e ≡ true)) (sym e) tt;
         few_rows = o.few_rows;
         rows = o.rows;
         level = o.level;
@@ -200,7 +199,7 @@ module _ (s : Said) (o : InOrder s) (fs : List (List ℕ)) where
         few_locations = simp length_push (omega arith);
         locations = All-push (λ l. sound_location (ceilings_of s.ceilings) l ≡ true) s.locations (location fs) o.locations (and_from _ _ priority fit);
         few_edges = o.few_edges;
-        edges = subst (All (λ e. sound_edge (ceilings_of cs) n e ≡ true)) (sym e) tt;
+        edges = subst (AllByRecursion (λ e. sound_edge (ceilings_of cs) n e ≡ true)) (sym e) tt;
         few_rows = o.few_rows;
         rows = o.rows;
         level = o.level;
@@ -278,16 +277,16 @@ nothing_in_order = record { few_clocks = lit≤ tt; ceilings = tt; few_locations
 
 -- The game
 
-all_every : {X : Type 0} (p : X → Bool) (xs : List X) → All (λ x. p x ≡ true) xs → every p xs ≡ true
+all_every : {X : Type 0} (p : X → Bool) (xs : List X) → AllByRecursion (λ x. p x ≡ true) xs → every p xs ≡ true
 all_every p [] h = refl
 all_every p (x ∷ xs) h = and_from _ _ h.0 (all_every p xs h.1)
 
-ceiling_low : (cs : List ℕ) (i : ℕ) → All InRange cs → leb (get_or cs i 0) max_ceiling ≡ true
+ceiling_low : (cs : List ℕ) (i : ℕ) → AllByRecursion InRange cs → leb (get_or cs i 0) max_ceiling ≡ true
 ceiling_low [] i r = refl
 ceiling_low (c ∷ cs) zero r = le-leb c max_ceiling r.0.1
 ceiling_low (c ∷ cs) (suc i) r = ceiling_low cs i r.1
 
-ceiling_turn : (cs : List ℕ) (i : ℕ) → All InRange cs → (ltb 0 (get_or cs i 0) || eqb (get_or cs (suc i) 0) 0) ≡ true
+ceiling_turn : (cs : List ℕ) (i : ℕ) → AllByRecursion InRange cs → (ltb 0 (get_or cs i 0) || eqb (get_or cs (suc i) 0) 0) ≡ true
 ceiling_turn [] i r = refl
 ceiling_turn (c ∷ cs) zero r = or_left _ _ (lt-ltb 0 c r.0.0)
 ceiling_turn (c ∷ cs) (suc i) r = ceiling_turn cs i r.1
@@ -319,7 +318,7 @@ start_decides s o =
 four_ranks : (rs : List Ranks) → length (rank_list rs) ≡ 4 * length rs
 four_ranks rs = simp (length-append, length-map) (omega arith)
 
-column_in_range : (c : OddColour) (rs : List Ranks) → All RanksInRange rs → All (λ r. r ≤ max_rank) (column c rs)
+column_in_range : (c : OddColour) (rs : List Ranks) → AllByRecursion RanksInRange rs → AllByRecursion (λ r. r ≤ max_rank) (column c rs)
 column_in_range c rs h = All-map (λ r. r ≤ max_rank) (rank_of c) rs (All-weaker RanksInRange (λ r. rank_of c r ≤ max_rank) (pick c) rs h)
   where
     pick : (c : OddColour) (r : Ranks) → RanksInRange r → rank_of c r ≤ max_rank
@@ -328,7 +327,7 @@ column_in_range c rs h = All-map (λ r. r ≤ max_rank) (rank_of c) rs (All-weak
     pick Five r h = h.2
     pick Seven r h = h.3
 
-ranks_low : (rs : List Ranks) → All RanksInRange rs → All (λ r. r ≤ max_rank) (rank_list rs)
+ranks_low : (rs : List Ranks) → AllByRecursion RanksInRange rs → AllByRecursion (λ r. r ≤ max_rank) (rank_list rs)
 ranks_low rs h =
     let at = λ (c : OddColour). column_in_range c rs h in
     All-append _ (column One rs ++ column Three rs ++ column Five rs) _ (All-append _ (column One rs ++ column Three rs) _ (All-append _ (column One rs) _ (at One) (at Three)) (at Five)) (at Seven)

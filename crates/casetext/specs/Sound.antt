@@ -1,6 +1,6 @@
 -- What every case that is read has.
 use Rattle.std.specs.Prelude.{◌≡◌, ◌*◌, ◌≤◌, true, length, IfSome}
-use Rattle.std.specs.List.{AllByRecursion as All}
+use Rattle.std.specs.List.{AllByRecursion}
 use Rattle.regions.specs.declared.region.ClockRegion.{ClockRegion}
 use Rattle.game.specs.declared.parts.TimedPosition.{TimedPosition}
 use Rattle.game.specs.Game.{sound}
@@ -30,6 +30,6 @@ pub record RowInRange (r : Row TimedPosition) : Type 0 where
 pub record Sound (c : Contents) : Type 0 where
   pub game : sound c.game ≡ true
   pub few_rows : length c.rows ≤ max_rows
-  pub rows : All RowInRange c.rows
+  pub rows : AllByRecursion RowInRange c.rows
   pub four_ranks : length c.ranks ≡ 4 * length c.rows
-  pub ranks : All (λ r. r ≤ max_rank) c.ranks
+  pub ranks : AllByRecursion (λ r. r ≤ max_rank) c.ranks

@@ -1,14 +1,13 @@
 -- A grain more, where no clock lacks one to a unit, and where none is at a unit.
-use Rattle.std.proofs.Common.{◌≡◌, ℕ, zero, suc, ◌+◌, ◌-◌, ◌*◌, ◌/◌, ◌%◌, ◌<◌, ◌≤◌, Bool, true, false, cond, ◌&&◌, ◌||◌, eqb, ltb, leb, ◌⊎◌, List, [], ◌∷◌, map, sym, refl, ap, ◌∙◌, inl, inr, arith}
+use Rattle.std.proofs.Common.{◌≡◌, ℕ, ◌+◌, ◌-◌, ◌*◌, ◌%◌, ◌<◌, ◌≤◌, Bool, false, ◌&&◌, eqb, leb, List, map, sym, ap, ◌∙◌, inl, inr, arith}
 use lib.Arith.{digits_mod}
-use Rattle.std.specs.List.{AllByRecursion as All}
 use Rattle.std.proofs.lemmas.Bool.Decides.{nat_tests}
 use Rattle.std.proofs.ByRecursion.{All-map, All-weaker}
-use Rattle.clocks.specs.Regions.{Clock, Part, clock, part, spot, some, ranked, region_of, later, turns, has}
+use Rattle.clocks.specs.Regions.{Clock, spot, some, region_of, later, turns, has}
 use Rattle.clocks.specs.Theorems.{Leaving, Arriving}
 use Rattle.clocks.proofs.Lists.{some_same, some_map, some_ext, none_each}
-use Rattle.clocks.proofs.Ticks.{Low, High, tick, turning, Step, low_step, high_step}
-use Rattle.clocks.proofs.Spots.{Stands, stands, not_past, spot_at, spot_past}
+use Rattle.clocks.proofs.Ticks.{Low, High, turning, Step, low_step, high_step}
+use Rattle.clocks.proofs.Spots.{stands, not_past, spot_at, spot_past}
 use Rattle.clocks.proofs.Walks.{spot_turns, later_tick}
 
 abbrev inside : ℕ → ℕ → Clock → Bool

@@ -1,9 +1,9 @@
 -- The theorems of specs/Theorems.antt.
-use Rattle.std.proofs.Common.{◌≡◌, ℕ, zero, suc, ◌+◌, ◌*◌, ◌%◌, ◌<◌, ◌≤◌, min, ◌⊎◌, List, [], ◌∷◌, map, Some, None, Option, sym, refl, ap, ◌∙◌, subst, inl, inr, arith}
+use Rattle.std.proofs.Common.{◌≡◌, ℕ, zero, suc, ◌+◌, ◌*◌, ◌<◌, ◌≤◌, min, List, Some, None, Option, sym, refl, ap, ◌∙◌, subst, inl, inr, arith}
 use mathlib.Core.List.{map-map}
 use Rattle.std.proofs.lemmas.Bool.{cases_lt, cases_eq}
-use Rattle.clocks.specs.Regions.{Clock, Part, clock, part, spot, top, ranked, region_of, restarted, zeroed, Own, next, onward, waits, later, finer, passed}
-use Rattle.clocks.specs.Theorems.{Scales, Grains, Delays, Waits, Earlier, held, Holds, Owned, Shown, Kept, Fresh}
+use Rattle.clocks.specs.Regions.{Clock, Part, clock, spot, top, ranked, region_of, restarted, zeroed, Own, onward, waits, later, finer, passed}
+use Rattle.clocks.specs.Theorems.{Scales, Grains, Delays, Waits, Earlier, Holds, Owned, Shown, Kept, Fresh}
 use Rattle.clocks.proofs.Lists.{map_ext}
 use Rattle.clocks.proofs.Spots.{scales, spot_held}
 use Rattle.clocks.proofs.Walks.{grain, walk, passed_mono, reach, finer_even}

@@ -1,15 +1,15 @@
 -- How many next regions a region has, and how many classes.
-use Rattle.std.proofs.Common.{◌≡◌, ℕ, zero, suc, ◌+◌, ◌-◌, ◌*◌, ◌<◌, ◌≤◌, max, Bool, true, false, cond, ◌&&◌, ◌||◌, eqb, ltb, leb, ◌⊎◌, List, [], ◌∷◌, map, length, Some, None, Option, sym, refl, ap, ◌∙◌, inl, inr, arith}
-use Rattle.std.specs.List.{AllByRecursion as All}
+use Rattle.std.proofs.Common.{◌≡◌, ℕ, zero, suc, ◌+◌, ◌<◌, ◌≤◌, Bool, true, false, cond, ◌||◌, eqb, ltb, leb, List, [], ◌∷◌, map, length, Some, None, Option, sym, refl, ap, ◌∙◌, inl, inr, arith}
+use Rattle.std.specs.List.{AllByRecursion}
 use Rattle.std.proofs.lemmas.Bool.Decides.{nat_tests}
 use Rattle.std.proofs.lemmas.Bool.{cases_Bool, cases_eq, cases_order, ltb-true}
-use Rattle.clocks.specs.Regions.{Part, part, some, seen, upto, top, resting, rising, leave, arrive, next, onward, waits, Within, Own, left, remaining}
+use Rattle.clocks.specs.Regions.{Part, some, seen, upto, top, resting, rising, leave, arrive, next, onward, waits, Within, Own, left, remaining}
 use Rattle.clocks.specs.Theorems.{Ends, Once, Few}
 use Rattle.clocks.proofs.Lists.{all_any}
 use Rattle.clocks.proofs.Owns.{keeps, upto_own}
 
 falls : (P : Part → Type 0) (q : Part → Bool) (f : Part → Part) → ((p : Part) → P p → left (f p) + cond (q p) 1 0 ≤ left p)
-    → (r : List Part) → All P r → remaining (map f r) + cond (some q r) 1 0 ≤ remaining r
+    → (r : List Part) → AllByRecursion P r → remaining (map f r) + cond (some q r) 1 0 ≤ remaining r
 falls P q f e [] h = omega arith
 falls P q f e (p ∷ ps) h = let a = e p h.0 in let b = falls P q f e ps h.1 in either (q p) (some q ps) a b
   where

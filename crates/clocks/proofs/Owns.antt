@@ -1,14 +1,13 @@
 -- What every region has, and that whatever has it is a region.
-use Rattle.std.proofs.Common.{◌≡◌, ℕ, zero, suc, pred, ◌+◌, ◌*◌, ◌/◌, ◌%◌, ◌<◌, ◌≤◌, max, Bool, true, false, cond, ◌&&◌, ◌||◌, eqb, ltb, leb, ◌⊎◌, List, [], ◌∷◌, map, Some, None, Option, sym, refl, ap, ◌∙◌, subst, ap₂, inl, inr, arith}
+use Rattle.std.proofs.Common.{◌≡◌, ℕ, zero, suc, ◌+◌, ◌*◌, ◌<◌, ◌≤◌, Bool, true, eqb, List, [], ◌∷◌, map, Some, sym, refl, ap, ◌∙◌, subst, ap₂, inl, inr, arith}
 use mathlib.Core.List.{map-map}
-use Rattle.std.specs.List.{AllByRecursion as All}
-use Rattle.std.proofs.lemmas.Bool.Decides.{nat_tests}
+use Rattle.std.specs.List.{AllByRecursion}
 use Rattle.std.proofs.ByRecursion.{All-map, All-weaker}
-use Rattle.std.proofs.lemmas.Bool.{cases_lt, cases_eq, cases_Bool, eq-eqb, eqb-true}
-use Rattle.clocks.specs.Regions.{Clock, Part, clock, part, spot, some, seen, upto, rank, classed, ranked, region_of, top, next, onward, waits, later, finer, passed, Within, Own}
-use Rattle.clocks.proofs.Lists.{map_ext, map_keep, some_map, some_more, all_both, all_any, seen_each}
+use Rattle.std.proofs.lemmas.Bool.{cases_lt, cases_Bool, eq-eqb, eqb-true}
+use Rattle.clocks.specs.Regions.{Clock, Part, clock, part, spot, seen, upto, rank, classed, ranked, region_of, top, waits, later, finer, Within, Own}
+use Rattle.clocks.proofs.Lists.{map_keep, some_map, some_more, all_both, all_any, seen_each}
 use Rattle.clocks.proofs.Ticks.{Fine}
-use Rattle.clocks.proofs.Spots.{Stands, spot_at, spot_past, spot_fine, scales}
+use Rattle.clocks.proofs.Spots.{spot_at, spot_past, spot_fine, scales}
 use Rattle.clocks.proofs.Walks.{walk, reach, finer_even}
 
 -- a rank below another is the rank of something seen
@@ -27,7 +26,7 @@ module _ (f : ℕ → Bool) where
   find_rank zero v t z l = let w : ⊥ = omega arith in absurd w
   find_rank (suc n) v t z l = elim (cases_lt (upto f n) v) [ inl k ↦ (suc n, t, omega arith) | inr k ↦ find n v z k ]
 
-  find_top : (ps : List Part) (v : ℕ) → All (λ p. f p.rest ≡ true) ps → 0 < v → v ≤ top (map (classed f) ps) → (u : ℕ) × (f u ≡ true) × (rank f u ≡ v)
+  find_top : (ps : List Part) (v : ℕ) → AllByRecursion (λ p. f p.rest ≡ true) ps → 0 < v → v ≤ top (map (classed f) ps) → (u : ℕ) × (f u ≡ true) × (rank f u ≡ v)
   find_top [] v h z l = let w : ⊥ = omega arith in absurd w
   find_top (p ∷ ps) v h z l = elim (cases_lt (rank f p.rest) v)
       [ inl k ↦ find_top ps v h.1 z (omega arith) | inr k ↦ find_rank p.rest v h.0 z k ]
@@ -47,7 +46,7 @@ no_gap s v z l =
 pub owned : (D : ℕ) (xs : List Clock) → 0 < D → Own (region_of D xs)
 owned D xs z =
     let s : List Part = map (spot D) xs in
-    let h : All (Fine D) s = All-map (Fine D) (spot D) xs (all_any (λ x. Fine D (spot D x)) (λ x. spot_fine D x z) xs) in
+    let h : AllByRecursion (Fine D) s = All-map (Fine D) (spot D) xs (all_any (λ x. Fine D (spot D x)) (λ x. spot_fine D x z) xs) in
     record {
       within = All-map Within (classed (seen s)) s (All-weaker (Fine D) (λ p. Within (classed (seen s) p)) (λ p k. (k.1, below (seen s) p.ceiling p.whole p.rest k)) s h);
       gapless = no_gap s;
@@ -61,10 +60,10 @@ owned D xs z =
 abbrev pub readings : ℕ → List Part → List Clock
 readings D r = map (λ p. clock p.ceiling (p.whole * D + p.rest)) r
 
-top_all : (ps : List Part) → All (λ p. p.rest ≤ top ps) ps
+top_all : (ps : List Part) → AllByRecursion (λ p. p.rest ≤ top ps) ps
 top_all ps = go ps (omega arith)
   where
-    go : (qs : List Part) → top qs ≤ top ps → All (λ p. p.rest ≤ top ps) qs
+    go : (qs : List Part) → top qs ≤ top ps → AllByRecursion (λ p. p.rest ≤ top ps) qs
     go [] l = tt
     go (q ∷ qs) l = (omega arith, go qs (omega arith))
 

@@ -1,16 +1,16 @@
 -- Clocks that restart, and guards.
-use Rattle.std.proofs.Common.{◌≡◌, ℕ, zero, suc, ◌+◌, ◌*◌, ◌/◌, ◌%◌, ◌<◌, ◌≤◌, Bool, true, false, cond, ◌&&◌, ◌||◌, eqb, ltb, leb, ◌⊎◌, List, [], ◌∷◌, map, sym, refl, ap, ◌∙◌, ap₂, inl, inr, add-zero, mul-le-mul_right, lt_of_mul-lt-mul_right, add-one, arith}
+use Rattle.std.proofs.Common.{◌≡◌, ℕ, zero, suc, ◌+◌, ◌*◌, ◌/◌, ◌%◌, ◌<◌, ◌≤◌, Bool, true, false, cond, ◌&&◌, eqb, ltb, ◌⊎◌, List, [], ◌∷◌, map, sym, refl, ap, ◌∙◌, ap₂, inl, inr, add-zero, mul-le-mul_right, add-one, arith}
 use mathlib.Core.List.{map-map}
 use native.Mathlib.Nat.{zero-div, zero-mod}
-use Rattle.std.specs.List.{AllByRecursion as All}
+use Rattle.std.specs.List.{AllByRecursion}
 use Rattle.std.proofs.lemmas.Bool.Decides.{nat_tests}
-use Rattle.std.proofs.ByRecursion.{All-map, All-weaker}
-use Rattle.std.proofs.lemmas.Bool.{cases_lt, cases_eq, cases_order, cases_Bool, eq-eqb, ne_eqb, le-ltb, both_ways}
-use Rattle.clocks.specs.Regions.{Clock, Part, clock, part, spot, some, seen, upto, rank, classed, ranked, region_of, restarted, zeroed}
+use Rattle.std.proofs.ByRecursion.{All-weaker}
+use Rattle.std.proofs.lemmas.Bool.{cases_order, cases_Bool, eq-eqb, ne_eqb, le-ltb, both_ways}
+use Rattle.clocks.specs.Regions.{Clock, Part, clock, part, spot, seen, upto, rank, classed, ranked, restarted, zeroed}
 use Rattle.clocks.specs.Theorems.{Guards, Restarts}
 use Rattle.clocks.proofs.Lists.{map_same, some_same, some_map, each_none, rank_strict, seen_each}
 use Rattle.clocks.proofs.Ticks.{rank_pos}
-use Rattle.clocks.proofs.Spots.{Stands, stands, spot_at, spot_past}
+use Rattle.clocks.proofs.Spots.{stands, spot_at, spot_past}
 
 -- ranks among ranks
 module _ (f g h : ℕ → Bool) (sub : (u : ℕ) → f (suc u) ≡ false → g (suc u) ≡ false) (on : (u : ℕ) → f (suc u) ≡ true → h (rank f (suc u)) ≡ g (suc u)) where
@@ -42,7 +42,7 @@ rank_same f (suc b) u k t = elim (cases_order b u) [
   ]
 ]
 
-rerank : (f : ℕ → Bool) (s : List Part) → All (Known f) s → ranked (map (classed f) s) ≡ ranked s
+rerank : (f : ℕ → Bool) (s : List Part) → AllByRecursion (Known f) s → ranked (map (classed f) s) ≡ ranked s
 rerank f s k =
     map-map (classed h) (classed f) s
     ∙ map_same (Known f) (λ p. classed h (classed f p)) (classed g) (λ p _. ap (part p.ceiling p.whole) (rank_rank f g h sub on p.rest)) s k
@@ -86,7 +86,7 @@ zeroed_classed f (b ∷ bs) [] = refl
 zeroed_classed f (true ∷ bs) (p ∷ s) = ap (λ ps. part p.ceiling 0 0 ∷ ps) (zeroed_classed f bs s)
 zeroed_classed f (false ∷ bs) (p ∷ s) = ap (λ ps. classed f p ∷ ps) (zeroed_classed f bs s)
 
-zeroed_known : (f : ℕ → Bool) (bs : List Bool) (s : List Part) → All (λ p. f p.rest ≡ true) s → All (Known f) (zeroed bs s)
+zeroed_known : (f : ℕ → Bool) (bs : List Bool) (s : List Part) → AllByRecursion (λ p. f p.rest ≡ true) s → AllByRecursion (Known f) (zeroed bs s)
 zeroed_known f [] s h = All-weaker (λ p. f p.rest ≡ true) (Known f) (λ p k. inr k) s h
 zeroed_known f (b ∷ bs) [] h = tt
 zeroed_known f (true ∷ bs) (p ∷ s) h = (inl refl, zeroed_known f bs s h.1)

@@ -1,9 +1,9 @@
 -- The region in the words of the rules.
-use Rattle.std.proofs.Common.{◌≡◌, ℕ, zero, suc, ◌+◌, ◌-◌, ◌*◌, ◌/◌, ◌%◌, ◌<◌, ◌≤◌, Bool, true, false, cond, ◌&&◌, ◌||◌, eqb, ltb, leb, ◌⊎◌, List, [], ◌∷◌, map, sym, refl, ap, ◌∙◌, inl, inr, arith}
+use Rattle.std.proofs.Common.{◌≡◌, ℕ, zero, suc, ◌+◌, ◌-◌, ◌*◌, ◌/◌, ◌%◌, Bool, true, false, cond, ◌&&◌, eqb, ltb, leb, List, map, refl, ap, ◌∙◌, inl, inr, arith}
 use mathlib.Core.List.{map-map}
 use Rattle.std.proofs.lemmas.Bool.Decides.{nat_tests}
-use Rattle.std.proofs.lemmas.Bool.{cases_lt, le-ltb, lt-ltb, le-leb, lt-leb}
-use Rattle.clocks.specs.Regions.{Clock, Part, clock, part, spot, some, seen, upto, rank, classed, ranked, region_of, has}
+use Rattle.std.proofs.lemmas.Bool.{cases_lt, le-ltb, lt-ltb}
+use Rattle.clocks.specs.Regions.{Clock, part, spot, seen, upto, rank, classed, has}
 use Rattle.clocks.specs.Theorems.{smaller, said, Said}
 use Rattle.clocks.proofs.Lists.{map_ext, some_map, some_ext}
 

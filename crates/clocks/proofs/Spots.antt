@@ -1,13 +1,12 @@
 -- Where a clock stands.
-use Rattle.std.proofs.Common.{◌≡◌, ℕ, zero, suc, ◌+◌, ◌*◌, ◌/◌, ◌%◌, ◌<◌, ◌≤◌, min, Bool, true, false, cond, ◌&&◌, ◌||◌, eqb, ltb, leb, ◌⊎◌, List, [], ◌∷◌, map, sym, refl, ap, ◌∙◌, inl, inr, add-suc, mul-le-mul_right, mod-lt, mul-le-mul_left, mul-zero, div-add-mod', le_of_mul-le-mul_right, arith}
+use Rattle.std.proofs.Common.{◌≡◌, ℕ, zero, suc, ◌+◌, ◌*◌, ◌/◌, ◌%◌, ◌<◌, ◌≤◌, min, Bool, true, false, eqb, ltb, ◌⊎◌, List, map, sym, ap, ◌∙◌, inl, inr, add-suc, mul-le-mul_right, mod-lt, mul-le-mul_left, mul-zero, div-add-mod', le_of_mul-le-mul_right, arith}
 use mathlib.Core.List.{map-map}
 use native.Mathlib.Nat.{mul-lt-mul_of_pos_left, eq_of_mul-eq-mul_left}
 use lib.Arith.{digits_div, digits_mod}
-use Rattle.std.specs.List.{AllByRecursion as All}
 use Rattle.std.proofs.lemmas.Bool.Decides.{nat_tests}
 use Rattle.std.proofs.lemmas.Bool.{cases_lt, cases_eq, le-ltb, lt-ltb, eq-eqb, ne_eqb}
-use Rattle.clocks.specs.Regions.{Clock, Part, clock, part, spot, some, seen, upto, rank, classed, ranked, region_of, later, finer}
-use Rattle.clocks.proofs.Lists.{map_same, some_ext, some_map, each_none, some_none, map_ext}
+use Rattle.clocks.specs.Regions.{Clock, Part, clock, part, spot, seen, upto, rank, classed, ranked, region_of, finer}
+use Rattle.clocks.proofs.Lists.{some_ext, some_map, some_none, map_ext}
 use Rattle.clocks.proofs.Ticks.{Fine, tick}
 
 -- a clock of ceiling c that stands at q units and r grains

@@ -1,11 +1,11 @@
 -- One grain more.
-use Rattle.std.proofs.Common.{◌≡◌, ℕ, zero, suc, ◌+◌, ◌*◌, ◌/◌, ◌%◌, ◌<◌, ◌≤◌, max, Bool, true, false, cond, ◌&&◌, ◌||◌, eqb, ltb, leb, ◌⊎◌, List, [], ◌∷◌, map, Some, None, Option, sym, refl, ap, ◌∙◌, inl, inr, arith}
+use Rattle.std.proofs.Common.{◌≡◌, ℕ, zero, suc, ◌+◌, ◌<◌, ◌≤◌, Bool, true, false, cond, ◌&&◌, ◌||◌, eqb, ltb, leb, List, map, Some, sym, refl, ap, ◌∙◌, inl, inr, arith}
 use mathlib.Core.List.{map-map}
-use Rattle.std.specs.List.{AllByRecursion as All}
+use Rattle.std.specs.List.{AllByRecursion}
 use Rattle.std.proofs.lemmas.Bool.Decides.{nat_tests}
 use Rattle.std.proofs.ByRecursion.{All-map, All-weaker}
-use Rattle.std.proofs.lemmas.Bool.{cases_lt, cases_Bool, eqb-true, eq-eqb}
-use Rattle.clocks.specs.Regions.{Clock, Part, clock, part, spot, some, seen, upto, rank, classed, ranked, region_of, resting, rising, leave, top, arrive, next}
+use Rattle.std.proofs.lemmas.Bool.{cases_lt, eqb-true, eq-eqb}
+use Rattle.clocks.specs.Regions.{Part, part, some, seen, rank, classed, ranked, resting, rising, leave, top, arrive, next}
 use Rattle.clocks.proofs.Lists.{map_same, map_keep, some_same, some_map, some_ext, some_more, none_each, each_none, shift, rank_mono, rank_strict, top_is, seen_each, all_both}
 
 -- a spot at scale E
@@ -46,7 +46,7 @@ pub resting_classed : (f : ℕ → Bool) (ps : List Part) → some resting (map 
 resting_classed f ps =
     some_map resting (classed f) ps ∙ some_ext (λ p. resting (classed f p)) resting (λ p. ap (λ b. leb p.whole p.ceiling && b) (rank_pos f p.rest)) ps
 
-low_leaves : (E : ℕ) (s : List Part) → All (Low E) s → ranked (map (tick E) s) ≡ map (leave (some rising (ranked s))) (ranked s)
+low_leaves : (E : ℕ) (s : List Part) → AllByRecursion (Low E) s → ranked (map (tick E) s) ≡ map (leave (some rising (ranked s))) (ranked s)
 low_leaves E s h =
     map-map (classed g) (tick E) s
     ∙ map_same (Low E) (λ p. classed g (tick E p)) (λ p. leave (g 1) (classed f p)) (λ p k. low_classed E f g p.ceiling p.whole p.rest k up) s h
@@ -101,7 +101,7 @@ high_arrives E f g c w (suc n) h z e = elim (cases_lt (suc n) (suc E)) [
   | inr l ↦ let j : n ≡ E = omega arith in rw j (grind (arith, nat_tests))
 ]
 
-module _ (E : ℕ) (s : List Part) (h : All (High (suc (suc E))) s) where
+module _ (E : ℕ) (s : List Part) (h : AllByRecursion (High (suc (suc E))) s) where
   high_up : (v : ℕ) → suc (suc v) < suc (suc E) → seen (map (tick (suc (suc E))) s) (suc (suc v)) ≡ seen s (suc v)
   high_up v l =
       some_map (λ p. eqb p.rest (suc (suc v))) (tick (suc (suc E))) s
@@ -145,7 +145,7 @@ turning E p = leb p.whole p.ceiling && (eqb p.rest 0 || eqb (suc p.rest) E)
 abbrev pub Step : Bool → List Part → List Part → Type 0
 Step moves r after = (moves ≡ true → next r ≡ Some after) × (moves ≡ false → after ≡ r)
 
-pub low_step : (E : ℕ) (s : List Part) → All (Low E) s → Step (some (turning E) s) (ranked s) (ranked (map (tick E) s))
+pub low_step : (E : ℕ) (s : List Part) → AllByRecursion (Low E) s → Step (some (turning E) s) (ranked s) (ranked (map (tick E) s))
 low_step E s h = (
   λ m. let k : some resting (ranked s) ≡ true = resting_classed (seen s) s ∙ sym e ∙ m in
       rw (k, low_leaves E s h),
@@ -156,7 +156,7 @@ low_step E s h = (
     e : some (turning E) s ≡ some resting s
     e = some_same (Low E) (turning E) resting (λ p j. grind (arith, nat_tests)) s h
 
-high_step₂ : (E : ℕ) (s : List Part) → All (High (suc (suc E))) s → Step (some (turning (suc (suc E))) s) (ranked s) (ranked (map (tick (suc (suc E))) s))
+high_step₂ : (E : ℕ) (s : List Part) → AllByRecursion (High (suc (suc E))) s → Step (some (turning (suc (suc E))) s) (ranked s) (ranked (map (tick (suc (suc E))) s))
 high_step₂ E s h = (
   λ m. let k : seen s (suc E) ≡ true = sym e ∙ m in
       let t = high_top E s h k in
@@ -169,7 +169,7 @@ high_step₂ E s h = (
     e : some (turning (suc (suc E))) s ≡ seen s (suc E)
     e = some_same (High (suc (suc E))) (turning (suc (suc E))) (λ p. eqb p.rest (suc E)) (λ p j. grind (arith, nat_tests)) s h
 
-pub high_step : (E : ℕ) (s : List Part) → 1 < E → All (High E) s → Step (some (turning E) s) (ranked s) (ranked (map (tick E) s))
+pub high_step : (E : ℕ) (s : List Part) → 1 < E → AllByRecursion (High E) s → Step (some (turning E) s) (ranked s) (ranked (map (tick E) s))
 high_step zero s l h = let n : ⊥ = omega arith in absurd n
 high_step (suc zero) s l h = let n : ⊥ = omega arith in absurd n
 high_step (suc (suc E)) s l h = high_step₂ E s h

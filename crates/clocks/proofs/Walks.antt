@@ -1,15 +1,15 @@
 -- Grain by grain through the regions.
-use Rattle.std.proofs.Common.{◌≡◌, ℕ, zero, suc, pred, ◌+◌, ◌*◌, ◌/◌, ◌%◌, ◌<◌, ◌≤◌, max, Bool, true, false, cond, ◌&&◌, ◌||◌, eqb, ltb, leb, ◌⊎◌, List, [], ◌∷◌, map, Some, None, Option, sym, refl, ap, ◌∙◌, inl, inr, add-zero, add_assoc, add-one, arith}
+use Rattle.std.proofs.Common.{◌≡◌, ℕ, zero, suc, pred, ◌+◌, ◌*◌, ◌/◌, ◌%◌, ◌<◌, ◌≤◌, Bool, true, false, ◌&&◌, ltb, leb, List, map, Some, None, Option, sym, refl, ap, ◌∙◌, inl, inr, add-zero, add-one, arith}
 use mathlib.Core.List.{map-map}
 use native.Mathlib.Nat.{div-le_of_le-mul}
-use Rattle.std.specs.List.{AllByRecursion as All}
+use Rattle.std.specs.List.{AllByRecursion}
 use Rattle.std.proofs.lemmas.Bool.Decides.{nat_tests}
 use Rattle.std.proofs.ByRecursion.{All-map, All-weaker}
 use Rattle.std.proofs.lemmas.Bool.{cases_lt, cases_eq, cases_Bool, le-ltb, le-leb}
-use Rattle.clocks.specs.Regions.{Clock, Part, clock, part, spot, some, seen, upto, rank, classed, ranked, region_of, resting, rising, leave, top, arrive, next, onward, waits, later, finer, turns, passed}
+use Rattle.clocks.specs.Regions.{Clock, Part, clock, spot, some, seen, rank, classed, ranked, region_of, resting, top, next, onward, waits, later, finer, turns, passed}
 use Rattle.clocks.proofs.Lists.{map_ext, map_keep, some_ext, some_map, some_more, none_each, each_none, all_both, all_any, upto_mono, top_le}
 use Rattle.clocks.proofs.Ticks.{Fine, Low, High, tick, turning, Step, low_step, high_step, resting_classed}
-use Rattle.clocks.proofs.Spots.{Stands, stands, spot_at, spot_past, spot_fine, spot_tick}
+use Rattle.clocks.proofs.Spots.{stands, spot_at, spot_past, spot_fine, spot_tick}
 
 spot_low : (D : ℕ) (x : Clock) → 0 < D → x.reading % 2 ≡ 0 → Low (2 * D) (spot (2 * D) x)
 spot_low D x z e = elim (stands (2 * D) x.ceiling x.reading (omega arith)) [
@@ -40,7 +40,7 @@ later_tick E xs z =
     ∙ sym (map-map (tick E) (spot E) xs)
 
 -- C. one grain
-pub grain : (D b : ℕ) (xs : List Clock) → 0 < D → All (λ x. x.reading % 2 ≡ b) xs
+pub grain : (D b : ℕ) (xs : List Clock) → 0 < D → AllByRecursion (λ x. x.reading % 2 ≡ b) xs
     → Step (some (turns (2 * D)) xs) (region_of (2 * D) xs) (region_of (2 * D) (later 1 xs))
 grain D b xs z h =
     rw (later_tick (2 * D) xs (omega arith), some_ext (turns (2 * D)) (λ x. turning (2 * D) (spot (2 * D) x)) (spot_turns (2 * D)) xs, ← some_map (turning (2 * D)) (spot (2 * D)) xs)
@@ -58,7 +58,7 @@ later_suc : (m : ℕ) (xs : List Clock) → later 1 (later m xs) ≡ later (suc 
 later_suc m xs = map-map (λ x. clock x.ceiling (x.reading + 1)) (λ x. clock x.ceiling (x.reading + m)) xs
     ∙ map_ext (λ x. clock x.ceiling (x.reading + m + 1)) (λ x. clock x.ceiling (x.reading + suc m)) (λ x. ap (clock x.ceiling) (omega arith)) xs
 
-pub finer_even : (xs : List Clock) → All (λ x. x.reading % 2 ≡ 0) (finer 2 xs)
+pub finer_even : (xs : List Clock) → AllByRecursion (λ x. x.reading % 2 ≡ 0) (finer 2 xs)
 finer_even xs = All-map (λ x. x.reading % 2 ≡ 0) (λ x. clock x.ceiling (2 * x.reading)) xs (all_any (λ x. (2 * x.reading) % 2 ≡ 0) (λ x. omega arith) xs)
 
 abbrev alive : ℕ → ℕ → Part → Bool
@@ -71,7 +71,7 @@ alive_turns : (E : ℕ) (p : Part) → Fine E p → alive E 0 p ≡ true → tur
 alive_turns E p h e = grind (arith, nat_tests)
 
 -- with all clocks past there is no next region
-all_past : (E : ℕ) (s : List Part) → All (Fine E) s → some (λ p. leb p.whole p.ceiling) s ≡ false → next (ranked s) ≡ None
+all_past : (E : ℕ) (s : List Part) → AllByRecursion (Fine E) s → some (λ p. leb p.whole p.ceiling) s ≡ false → next (ranked s) ≡ None
 all_past E s h k =
     let both = all_both (Fine E) (λ p. leb p.whole p.ceiling ≡ false) s h (none_each (λ p. leb p.whole p.ceiling) s k) in
     let a : some resting (ranked s) ≡ false = resting_classed (seen s) s ∙ each_none (λ p. Fine E p × (leb p.whole p.ceiling ≡ false)) resting (λ p j. grind (arith, nat_tests)) s both in
@@ -83,8 +83,8 @@ all_past E s h k =
     zero_rank : (f : ℕ → Bool) (n : ℕ) → n ≡ 0 → rank f n ≤ 0
     zero_rank f n e = rw e (omega arith)
 
-module _ (D b : ℕ) (xs : List Clock) (z : 0 < D) (h : All (λ x. x.reading % 2 ≡ b) xs) where
-  parity : (m : ℕ) → All (λ x. x.reading % 2 ≡ (b + m) % 2) (later m xs)
+module _ (D b : ℕ) (xs : List Clock) (z : 0 < D) (h : AllByRecursion (λ x. x.reading % 2 ≡ b) xs) where
+  parity : (m : ℕ) → AllByRecursion (λ x. x.reading % 2 ≡ (b + m) % 2) (later m xs)
   parity m = All-map (λ x. x.reading % 2 ≡ (b + m) % 2) (λ x. clock x.ceiling (x.reading + m)) xs
       (All-weaker (λ x. x.reading % 2 ≡ b) (λ x. (x.reading + m) % 2 ≡ (b + m) % 2) (λ x k. omega arith) xs h)
 
@@ -101,7 +101,7 @@ module _ (D b : ℕ) (xs : List Clock) (z : 0 < D) (h : All (λ x. x.reading % 2
   pub passed_mono : (m n : ℕ) → m ≤ n → passed (2 * D) xs m ≤ passed (2 * D) xs n
   passed_mono m n l = upto_mono (λ v. some (turns (2 * D)) (later (pred v) xs)) m n l
 
-  fine : (m : ℕ) → All (Fine (2 * D)) (map (spot (2 * D)) (later m xs))
+  fine : (m : ℕ) → AllByRecursion (Fine (2 * D)) (map (spot (2 * D)) (later m xs))
   fine m = All-map (Fine (2 * D)) (spot (2 * D)) (later m xs) (all_any (λ x. Fine (2 * D) (spot (2 * D) x)) (λ x. spot_fine (2 * D) x (omega arith)) (later m xs))
 
   turning_spots : (m : ℕ) → some (turns (2 * D)) (later m xs) ≡ some (turning (2 * D)) (map (spot (2 * D)) (later m xs))

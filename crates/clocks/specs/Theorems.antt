@@ -1,6 +1,6 @@
 -- What holds of regions, for any number of clocks.
-use Rattle.std.specs.Prelude.{◌≡◌, ℕ, ◌+◌, ◌-◌, ◌*◌, ◌/◌, ◌%◌, ◌<◌, ◌≤◌, min, Bool, true, false, cond, ◌&&◌, List, [], ◌∷◌, map, length, Some, None, Option, ◌==◌, nat_lt}
-use Rattle.std.specs.List.{AllByRecursion as All}
+use Rattle.std.specs.Prelude.{◌≡◌, ℕ, ◌+◌, ◌-◌, ◌*◌, ◌/◌, ◌%◌, ◌<◌, ◌≤◌, min, Bool, true, false, cond, ◌&&◌, List, map, length, Some, ◌==◌, nat_lt}
+use Rattle.std.specs.List.{AllByRecursion}
 use Rattle.clocks.specs.Regions.{Clock, Part, clock, part, spot, some, upto, top, classed, ranked, region_of, next, waits, later, finer, turns, has, Own, restarted, zeroed, remaining}
 
 -- a finer scale shows the same region
@@ -11,7 +11,7 @@ Scales = (k D : ℕ) (xs : List Clock) → 0 < k → 0 < D → region_of (k * D)
 -- or lacks one grain to a unit, and else it leaves the region as it is
 abbrev pub Grains : Type 0
 Grains =
-    (D b : ℕ) (xs : List Clock) → 0 < D → All (λ x. x.reading % 2 ≡ b) xs
+    (D b : ℕ) (xs : List Clock) → 0 < D → AllByRecursion (λ x. x.reading % 2 ≡ b) xs
     → (some (turns (2 * D)) xs ≡ true → next (region_of (2 * D) xs) ≡ Some (region_of (2 * D) (later 1 xs)))
     × (some (turns (2 * D)) xs ≡ false → region_of (2 * D) (later 1 xs) ≡ region_of (2 * D) xs)
 

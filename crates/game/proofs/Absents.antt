@@ -2,7 +2,7 @@
 use Rattle.std.proofs.Common.{◌≡◌, ℕ, zero, suc, ◌+◌, ◌<◌, ◌≤◌, max, Bool, true, false, cond, not, ◌&&◌, ◌||◌, eqb, ltb, List, [], ◌∷◌, ◌++◌, map, length, Some, None, Option, sym, refl, ap, ◌∙◌, subst, ap₂, inl, inr, arith}
 use mathlib.Core.Bool.{or-true}
 use Rattle.std.specs.Option.{option_map}
-use Rattle.std.specs.List.{insert, AllByRecursion as All}
+use Rattle.std.specs.List.{insert, AllByRecursion}
 use Rattle.std.proofs.ByRecursion.{All-map, All-weaker}
 use Rattle.std.proofs.lemmas.Bool.{cases_Bool, and_parts, ltb-true}
 use Rattle.std.proofs.lemmas.Bool.Decides.{nat_tests}
@@ -124,10 +124,10 @@ leave_absent up p h c = let e : p.ceiling ≡ 0 = grind (arith, nat_tests) in le
 arrive_absent : (t : ℕ) (p : Part) → 0 < t → AbsentPast p → AbsentPast (arrive t p)
 arrive_absent t p z h c = let e : p.ceiling ≡ 0 = grind (arith, nat_tests) in let u = h e in (grind (arith, nat_tests), grind (arith, nat_tests))
 
-next_absent : (r a : List Part) → next r ≡ Some a → All AbsentPast r → All AbsentPast a
+next_absent : (r a : List Part) → next r ≡ Some a → AllByRecursion AbsentPast r → AllByRecursion AbsentPast a
 next_absent r a e h = elim (next_cases r a e) [
-  | inl i ↦ subst (All AbsentPast) i (All-map AbsentPast (leave (some rising r)) r (All-weaker AbsentPast (λ p. AbsentPast (leave (some rising r) p)) (leave_absent (some rising r)) r h))
-  | inr i ↦ subst (All AbsentPast) i.1 (All-map AbsentPast (arrive (top r)) r (All-weaker AbsentPast (λ p. AbsentPast (arrive (top r) p)) (λ p k. arrive_absent (top r) p i.0 k) r h))
+  | inl i ↦ subst (AllByRecursion AbsentPast) i (All-map AbsentPast (leave (some rising r)) r (All-weaker AbsentPast (λ p. AbsentPast (leave (some rising r) p)) (leave_absent (some rising r)) r h))
+  | inr i ↦ subst (AllByRecursion AbsentPast) i.1 (All-map AbsentPast (arrive (top r)) r (All-weaker AbsentPast (λ p. AbsentPast (arrive (top r) p)) (λ p k. arrive_absent (top r) p i.0 k) r h))
 ]
 
 classed_absent : (f : ℕ → Bool) (p : Part) → AbsentPast p → AbsentPast (classed f p)
@@ -139,7 +139,7 @@ Spares [] cs = Unit {0}
 Spares (b ∷ bs) [] = Unit {0}
 Spares (b ∷ bs) (c ∷ cs) = (resettable c b ≡ true) × Spares bs cs
 
-zeroed_absent : (bs : List Bool) (r : List Part) → Spares bs (map (λ p. p.ceiling) r) → All AbsentPast r → All AbsentPast (zeroed bs r)
+zeroed_absent : (bs : List Bool) (r : List Part) → Spares bs (map (λ p. p.ceiling) r) → AllByRecursion AbsentPast r → AllByRecursion AbsentPast (zeroed bs r)
 zeroed_absent [] r s h = h
 zeroed_absent (b ∷ bs) [] s h = tt
 zeroed_absent (true ∷ bs) (p ∷ r) s h = (λ c. let z : ⊥ = grind (arith, nat_tests) in absurd z, zeroed_absent bs r s.1 h.1)
@@ -166,20 +166,20 @@ module _ (g : Game) (s : sound g ≡ true) where
       let u = and_parts (ltb d.to (length g.locations)) (resetting g.ceilings d.resets && suits g.ceilings d.guard) t.1 in
       (and_parts (resetting g.ceilings d.resets) (suits g.ceilings d.guard) u.1).0
 
-  result_absent : (v : Side) (l j : ℕ) (e : Option ℕ) (r q : List Part) → map (λ p. p.ceiling) r ≡ limits g → All AbsentPast r → waits j r ≡ Some q
-      → All AbsentPast (result_of g v l (edge_at g e) q).position.region
+  result_absent : (v : Side) (l j : ℕ) (e : Option ℕ) (r q : List Part) → map (λ p. p.ceiling) r ≡ limits g → AllByRecursion AbsentPast r → waits j r ≡ Some q
+      → AllByRecursion AbsentPast (result_of g v l (edge_at g e) q).position.region
   result_absent v l j e r q c h w =
       let bs : List Bool = resets_of (edge_at g e) ++ ticks q ∷ [] in
       let i : limits g ≡ map (λ p. p.ceiling) q = sym (waits_ceilings j r q w ∙ c) in
       let t : Spares bs (map (λ p. p.ceiling) q) = subst (Spares bs) i (spares (edge_at g e) (ticks q) (edge_resets e)) in
       All-map AbsentPast (classed (seen (zeroed bs q))) (zeroed bs q)
       (All-weaker AbsentPast (λ p. AbsentPast (classed (seen (zeroed bs q)) p)) (classed_absent (seen (zeroed bs q))) (zeroed bs q)
-      (zeroed_absent bs q t (waits_keep (All AbsentPast) next_absent j r q w h)))
+      (zeroed_absent bs q t (waits_keep (AllByRecursion AbsentPast) next_absent j r q w h)))
 
 pub stay_absent : StayAbsent
 stay_absent g s = (
   (fresh_absent g.ceilings.x, (fresh_absent g.ceilings.y, (fresh_absent g.ceilings.z, (fresh_absent tick_ceiling, tt)))),
-  λ l r k e c h. all_outcomes g l r k e (λ o. All AbsentPast o.position.region)
+  λ l r k e c h. all_outcomes g l r k e (λ o. AllByRecursion AbsentPast o.position.region)
       (λ q w. result_absent g s Us l k e r q c h w)
       (λ j n q w f t. result_absent g s Them l j f r q c h w),
 )

@@ -7,7 +7,7 @@ use Rattle.std.proofs.lemmas.Option.{slice_get_past}
 use Rattle.std.proofs.lemmas.Bool.{cases_Bool, cases_lt, and_parts, leb-true}
 use Rattle.std.proofs.lemmas.Bool.Decides.{nat_tests, Decides-eqb, Decides-and, Decides-like}
 use Rattle.arena.specs.declared.moves.Side.TheVariants.{Us}
-use Rattle.clocks.specs.Regions.{Part, waits}
+use Rattle.clocks.specs.Regions.{Part}
 use Rattle.regions.specs.declared.region.ClockRegion.{ClockRegion}
 use Rattle.regions.specs.declared.region.Region.{Region}
 use Rattle.regions.specs.declared.region.Ceilings.{Ceilings}

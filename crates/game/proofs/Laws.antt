@@ -2,7 +2,7 @@
 use Rattle.std.proofs.Common.{◌≡◌, ℕ, suc, ◌<◌, Bool, true, false, cond, not, ◌&&◌, ◌||◌, eqb, ltb, List, [], ◌∷◌, ◌++◌, map, length, Some, None, Option, sym, refl, ap, ◌∙◌, ap₂, arith}
 use mathlib.Core.List.{map-map}
 use lib.ListN.{length-map}
-use Rattle.std.specs.List.{slice_get, AllByRecursion as All}
+use Rattle.std.specs.List.{slice_get, AllByRecursion}
 use Rattle.std.proofs.lemmas.Bool.{and_parts, and_from, eq-eqb}
 use Rattle.std.proofs.lemmas.Bool.Decides.{nat_tests}
 use Rattle.arena.specs.declared.moves.Side.{Side}
@@ -124,7 +124,7 @@ module _ (g : Game) where
 
     -- every outcome of a legal move is at an own position of the game's clocks
     pub outcomes_own : legal g Us (place l r) k e ≡ true
-        → All (λ o. (owns g o.position ≡ true) × (map (λ p. p.ceiling) o.position.region ≡ limits g)) (outcomes g (place l r) k e)
+        → AllByRecursion (λ o. (owns g o.position ≡ true) × (map (λ p. p.ceiling) o.position.region ≡ limits g)) (outcomes g (place l r) k e)
     outcomes_own h =
         let a = allowed g Us l r k e h in
         let b = owns_parts g l r a.own in

@@ -1,6 +1,6 @@
 -- What holds of each outcome, and how many there are.
 use Rattle.std.proofs.Common.{◌≡◌, ℕ, zero, suc, ◌+◌, ◌*◌, ◌<◌, ◌≤◌, Bool, true, false, ◌&&◌, eqb, leb, List, length, Some, None, Option, refl, ap, mul-le-mul_right, arith, length-append}
-use Rattle.std.specs.List.{AllByRecursion as All}
+use Rattle.std.specs.List.{AllByRecursion}
 use Rattle.std.proofs.ByRecursion.{All-append}
 use Rattle.std.proofs.lemmas.Bool.{and_parts, leb-true, eqb-true}
 use Rattle.arena.specs.declared.moves.Side.{Side}
@@ -10,11 +10,11 @@ use Rattle.clocks.specs.Regions.{Part, waits}
 use Rattle.regions.specs.Code.{is_own}
 use Rattle.game.specs.Game.{Game, Place, place, last_whole, keeps, owns, result_of, edge_at, may_take, welcomed, legal, each, given, their_edge, theirs_at, ours_at, outcomes}
 
-all_each : {A : Type 0} (P : A → Type 0) (n : ℕ) (f : ℕ → List A) → ((j : ℕ) → j < n → All P (f j)) → All P (each n f)
+all_each : {A : Type 0} (P : A → Type 0) (n : ℕ) (f : ℕ → List A) → ((j : ℕ) → j < n → AllByRecursion P (f j)) → AllByRecursion P (each n f)
 all_each P zero f h = tt
 all_each P (suc n) f h = All-append P (each n f) (f n) (all_each P n f (λ j l. h j (omega arith))) (h n (omega arith))
 
-all_given : {A : Type 0} (P : A → Type 0) (b : Bool) (x : A) → (b ≡ true → P x) → All P (given b x)
+all_given : {A : Type 0} (P : A → Type 0) (b : Bool) (x : A) → (b ≡ true → P x) → AllByRecursion P (given b x)
 all_given P true x h = (h refl, tt)
 all_given P false x h = tt
 
@@ -59,16 +59,16 @@ module _ (g : Game) (l : ℕ) (r : List Part) (k : ℕ) (e : Option ℕ) where
   pub all_outcomes : (P : Outcome Place → Type 0)
       → ((q : List Part) → waits k r ≡ Some q → P (result_of g Us l (edge_at g e) q))
       → ((j : ℕ) → j ≤ k → (q : List Part) → waits j r ≡ Some q → (f : Option ℕ) → may_take g Them l q f ≡ true → P (result_of g Them l (edge_at g f) q))
-      → All P (outcomes g (place l r) k e)
+      → AllByRecursion P (outcomes g (place l r) k e)
   all_outcomes P us them =
       All-append P (ours_at g l e (waits k r)) (each (suc k) (λ j. theirs_at g l (waits j r))) (ours (waits k r) refl)
       (all_each P (suc k) (λ j. theirs_at g l (waits j r)) (λ j n. there j (omega arith) (waits j r) refl))
     where
-      ours : (w : Option (List Part)) → waits k r ≡ w → All P (ours_at g l e w)
+      ours : (w : Option (List Part)) → waits k r ≡ w → AllByRecursion P (ours_at g l e w)
       ours None i = tt
       ours (Some q) i = (us q i, tt)
 
-      there : (j : ℕ) → j ≤ k → (w : Option (List Part)) → waits j r ≡ w → All P (theirs_at g l w)
+      there : (j : ℕ) → j ≤ k → (w : Option (List Part)) → waits j r ≡ w → AllByRecursion P (theirs_at g l w)
       there j n None i = tt
       there j n (Some q) i = (
         them j n q i None refl,

@@ -1,7 +1,7 @@
 -- A sound game taken apart.
 use Rattle.std.proofs.Common.{◌≡◌, ℕ, zero, suc, ◌≤◌, Bool, true, ◌&&◌, leb, List, [], ◌∷◌, length, Some, sym, ◌∙◌, arith}
 use mathlib.Core.Bool.{and_assoc}
-use Rattle.std.specs.List.{slice_get, AllByRecursion as All}
+use Rattle.std.specs.List.{slice_get, AllByRecursion}
 use Rattle.std.proofs.lemmas.Bool.{and_parts, leb-true, le-leb}
 use Rattle.regions.specs.Code.{every, ceiled}
 use Rattle.game.specs.declared.parts.Edge.{Edge}
@@ -9,11 +9,11 @@ use Rattle.game.specs.Game.{Game, owns, start, limits, in_turn, sound_location, 
 use Rattle.game.specs.Start.{well_made}
 
 -- what every element passes
-pub every_all : {X : Type 0} (p : X → Bool) (xs : List X) → every p xs ≡ true → All (λ x. p x ≡ true) xs
+pub every_all : {X : Type 0} (p : X → Bool) (xs : List X) → every p xs ≡ true → AllByRecursion (λ x. p x ≡ true) xs
 every_all p [] h = tt
 every_all p (x ∷ xs) h = let t = and_parts (p x) (every p xs) h in (t.0, every_all p xs t.1)
 
-pub nth_all : {X : Type 0} (P : X → Type 0) (xs : List X) (i : ℕ) (x : X) → All P xs → slice_get xs i ≡ Some x → P x
+pub nth_all : {X : Type 0} (P : X → Type 0) (xs : List X) (i : ℕ) (x : X) → AllByRecursion P xs → slice_get xs i ≡ Some x → P x
 nth_all P [] i x h e = let z : ◌≡◌ {A = ℕ} 0 1 = cc in let n : ⊥ = omega arith in absurd n
 nth_all P (y ∷ xs) zero x h e = let i : y ≡ x = cc in rw i at h.0
 nth_all P (y ∷ xs) (suc i) x h e = nth_all P xs i x h.1 e
@@ -68,7 +68,7 @@ module _ (g : Game) (s : sound g ≡ true) where
       nth_all (λ e. sound_edge g.ceilings (length g.locations) e ≡ true) g.edges i e
       (every_all (sound_edge g.ceilings (length g.locations)) g.edges sound_made.edges_sound) h
 
-  pub sound_ceilings : All (λ c. c ≤ 15) (limits g)
+  pub sound_ceilings : AllByRecursion (λ c. c ≤ 15) (limits g)
   sound_ceilings =
       let h = every_all (λ c. leb c 15) (limits g) sound_made.low in
       (leb-true g.ceilings.x 15 h.0, (leb-true g.ceilings.y 15 h.1.0, (leb-true g.ceilings.z 15 h.1.1.0, (omega arith, tt))))

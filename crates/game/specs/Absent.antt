@@ -1,7 +1,7 @@
 -- Fewer than three clocks: a clock that the game does not have is one with ceiling 0 that stands past it.
 use Rattle.std.specs.Prelude.{◌≡◌, ℕ, ◌<◌, ◌≤◌, Bool, true, false, List, map, length, Option}
 use Rattle.std.specs.Option.{option_map}
-use Rattle.std.specs.List.{insert, AllByRecursion as All}
+use Rattle.std.specs.List.{insert, AllByRecursion}
 use Rattle.clocks.specs.Regions.{Part, next, waits, ranked, zeroed}
 use Rattle.game.specs.declared.bounds.Bounds.{Bounds}
 use Rattle.game.specs.Intervals.{everywhere, holds}
@@ -29,6 +29,6 @@ AbsentPast p = p.ceiling ≡ 0 → (p.whole ≡ 1) × (p.rest ≡ 0)
 abbrev pub StayAbsent : Type 0
 StayAbsent =
     (g : Game) → sound g ≡ true
-    → All AbsentPast (start g).region
-    × ((l : ℕ) (r : List Part) (k : ℕ) (e : Option ℕ) → map (λ p. p.ceiling) r ≡ limits g → All AbsentPast r
-    → All (λ o. All AbsentPast o.position.region) (outcomes g (place l r) k e))
+    → AllByRecursion AbsentPast (start g).region
+    × ((l : ℕ) (r : List Part) (k : ℕ) (e : Option ℕ) → map (λ p. p.ceiling) r ≡ limits g → AllByRecursion AbsentPast r
+    → AllByRecursion (λ o. AllByRecursion AbsentPast o.position.region) (outcomes g (place l r) k e))

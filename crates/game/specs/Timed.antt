@@ -1,8 +1,7 @@
 -- The timed game as an arena: its answers, at positions as the program has them.
-use Rattle.std.specs.Prelude.{◌≡◌, ℕ, ◌+◌, ◌*◌, ◌<◌, ◌≤◌, Bool, true, false, cond, ◌&&◌, List, [], ◌∷◌, map, Some, None, Option, ◌==◌}
+use Rattle.std.specs.Prelude.{◌≡◌, ℕ, ◌+◌, ◌*◌, Bool, true, cond, ◌&&◌, List, [], map, Some, None, Option, ◌==◌}
 use Rattle.std.specs.List.{slice_get}
 use Rattle.arena.specs.Meaning.{Meaning, Lawful}
-use Rattle.arena.specs.declared.moves.Move.{Move}
 use Rattle.arena.specs.declared.moves.Side.TheVariants.{Us}
 use Rattle.arena.specs.declared.moves.Outcome.{Outcome}
 use Rattle.clocks.specs.Regions.{Part}

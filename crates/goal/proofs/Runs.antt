@@ -1,6 +1,6 @@
 -- Runs over a goal are the runs below, with the automaton's states beside them.
 use Rattle.std.proofs.Common.{◌≡◌, ℕ, zero, suc, true, List, [], ◌∷◌, map, Some, None, Option, sym, refl, ap, ◌∙◌, subst, ap₂, ⊎_elim, arith}
-use Rattle.std.specs.List.{slice_get, AllByRecursion as All}
+use Rattle.std.specs.List.{slice_get, AllByRecursion}
 use Rattle.std.specs.Option.{option_map, option_flatten}
 use Rattle.std.proofs.lemmas.Bool.{cond-true, cases_Bool}
 use Rattle.arena.specs.Meaning.{Meaning, Lawful}
@@ -24,12 +24,12 @@ flattened_some : {X Y : Type 0} (f : X → Option Y) (o : Option X) (y : Y) → 
 flattened_some f None y e = absurd (none_some e)
 flattened_some f (Some x) y e = (x, refl, e)
 
-all_nth : {X : Type 0} (F : X → Type 0) (xs : List X) (i : ℕ) (x : X) → All F xs → slice_get xs i ≡ Some x → F x
+all_nth : {X : Type 0} (F : X → Type 0) (xs : List X) (i : ℕ) (x : X) → AllByRecursion F xs → slice_get xs i ≡ Some x → F x
 all_nth F [] i x h e = absurd (none_some e)
 all_nth F (y ∷ ys) zero x h e = let s : y ≡ x = cc in subst F s h.0
 all_nth F (y ∷ ys) (suc i) x h e = all_nth F ys i x h.1 e
 
-map_where : {X Y Z : Type 0} (F : X → Type 0) (f : X → Z) (h : Y → Z) (k : X → Y) → ((x : X) → F x → f x ≡ h (k x)) → (xs : List X) → All F xs → map f xs ≡ map h (map k xs)
+map_where : {X Y Z : Type 0} (F : X → Type 0) (f : X → Z) (h : Y → Z) (k : X → Y) → ((x : X) → F x → f x ≡ h (k x)) → (xs : List X) → AllByRecursion F xs → map f xs ≡ map h (map k xs)
 map_where F f h k same [] a = refl
 map_where F f h k same (x ∷ xs) a = ap₂ ◌∷◌ (same x a.0) (map_where F f h k same xs a.1)
 
@@ -43,14 +43,14 @@ module _ {P : Type 0} (m : Meaning P) (ok : Lawful m) where
       ⊎_elim (λ h. all_nth (λ x. Own x.position) (m.outcomes p k.choice) k.number o (ok.leads p k.choice h) e)
       (λ h. absurd (none_some (sym (ap (λ os. slice_get os k.number) (ok.idle p k.choice h)) ∙ e))) (cases_Bool (m.legal p k.choice))
 
-  own_from : (ks : List Pick) (p : P) (os : List (Outcome P)) → run_from m p ks ≡ Some os → All Own (map (λ o. o.position) os)
-  own_from [] p os e = let s : [] ≡ os = cc in subst (λ xs. All Own (map (λ o. o.position) xs)) s tt
+  own_from : (ks : List Pick) (p : P) (os : List (Outcome P)) → run_from m p ks ≡ Some os → AllByRecursion Own (map (λ o. o.position) os)
+  own_from [] p os e = let s : [] ≡ os = cc in subst (λ xs. AllByRecursion Own (map (λ o. o.position) xs)) s tt
   own_from (k ∷ ks) p os e =
       let first = flattened_some (λ o. option_map (◌∷◌ o) (run_from m o.position ks)) (slice_get (m.outcomes p k.choice) k.number) os e in
       let rest = mapped_some (◌∷◌ first.0) (run_from m first.0.position ks) os first.2 in
-      subst (λ xs. All Own (map (λ o. o.position) xs)) rest.2 (own_outcome p k first.0 first.1, own_from ks first.0.position rest.0 rest.1)
+      subst (λ xs. AllByRecursion Own (map (λ o. o.position) xs)) rest.2 (own_outcome p k first.0 first.1, own_from ks first.0.position rest.0 rest.1)
 
-  own_along : (ks : List Pick) (os : List (Outcome P)) → run m ks ≡ Some os → All Own (along m os)
+  own_along : (ks : List Pick) (os : List (Outcome P)) → run m ks ≡ Some os → AllByRecursion Own (along m os)
   own_along ks os e = (ok.starts, own_from ks m.start os e)
 
 module _ {P : Type 0} (m : Meaning P) (ok : Lawful m) (g : Goal) where
@@ -111,7 +111,7 @@ module _ {P : Type 0} (m : Meaning P) (ok : Lawful m) (g : Goal) where
         let below = mapped_some (beside first) (run m ks) os (sym (from_start ks) ∙ e) in
         subst StatesRead below.2 (ap (◌∷◌ first) (beside_states first below.0))
 
-    own : All (λ p. owned m g p ≡ true) (along (goal_meaning m g) os)
+    own : AllByRecursion (λ p. owned m g p ≡ true) (along (goal_meaning m g) os)
     own = own_along (goal_meaning m g) (goal_lawful m ok g) ks os e
 
     state_priorities : map (goal_meaning m g).priority (along (goal_meaning m g) os) ≡ map (priority_in g) (map (λ p. p.state) (along (goal_meaning m g) os))

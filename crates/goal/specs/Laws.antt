@@ -1,7 +1,7 @@
 -- A goal over a lawful arena is lawful.
 use Rattle.std.specs.Prelude.{◌≡◌, ℕ, zero, suc, ◌≤◌, Bool, true, false, cond, ◌&&◌, List, [], ◌∷◌, map, length, Option, ◌==◌, refl}
 use Rattle.std.proofs.Common.{sym, ap, subst, ◌∙◌, ⊎_elim, arith}
-use Rattle.std.specs.List.{slice_get, AllByRecursion as All}
+use Rattle.std.specs.List.{slice_get, AllByRecursion}
 use Rattle.std.specs.Option.{option_map}
 use Rattle.std.proofs.ByRecursion.{All-map, All-weaker}
 use Rattle.std.proofs.lemmas.List.{length-map}
@@ -65,9 +65,9 @@ module _ {P : Type 0} (m : Meaning P) (ok : Lawful m) (g : Goal) where
     within : (1 ≤ length ((goal_meaning m g).outcomes p v)) × (length ((goal_meaning m g).outcomes p v) ≤ 65535)
     within = let c = ok.counts p.below v legally.1 in (omega (arith, as_many p v here), omega (arith, as_many p v here))
 
-    all_own : All (λ o. owned m g o.position ≡ true) ((goal_meaning m g).outcomes p v)
+    all_own : AllByRecursion (λ o. owned m g o.position ≡ true) ((goal_meaning m g).outcomes p v)
     all_own =
-        subst (All (λ o. owned m g o.position ≡ true)) (sym (opened p v here))
+        subst (AllByRecursion (λ o. owned m g o.position ≡ true)) (sym (opened p v here))
         (All-map (λ o. owned m g o.position ≡ true) (raised m g p.state) (m.outcomes p.below v)
         (All-weaker (λ o. m.owns o.position ≡ true) (λ o. owned m g (raised m g p.state o).position ≡ true) (moved_on p.state here) (m.outcomes p.below v)
         (ok.leads p.below v legally.1)))

@@ -1,20 +1,19 @@
 -- What stands behind the graph of a table.
-use Rattle.std.proofs.Common.{◌≡◌, ℕ, zero, suc, ◌+◌, ◌*◌, ◌%◌, ◌<◌, ◌≤◌, max, Bool, true, not, ltb, List, [], ◌∷◌, ◌++◌, length, Some, None, Option, sym, refl, ap, ◌∙◌, subst, arith}
+use Rattle.std.proofs.Common.{◌≡◌, ℕ, zero, suc, ◌<◌, ◌≤◌, Bool, true, not, ltb, List, [], ◌∷◌, length, Some, None, Option, refl, ap, arith}
 use Rattle.std.specs.List.{slice_get}
 use Rattle.std.proofs.lemmas.Bool.{not-false, ltb-false}
 use Rattle.arena.specs.Meaning.{Meaning}
 use Rattle.arena.specs.declared.moves.Outcome.{Outcome}
 use Rattle.table.specs.declared.row.Row.{Row}
-use Rattle.table.specs.declared.fault.Fault.{Fault}
 use Rattle.table.specs.declared.fault.Fault.TheVariants.{TooManyRows, IllegalMove}
 use Rattle.table.specs.Colours.{colour_of}
 use Rattle.table.specs.Rows.{row_after, outcomes_of}
 use Rattle.table.specs.Check.{when, numbered, place_faults, start_faults, target_faults, outcome_faults, move_faults, faults}
-use Rattle.table.proofs.Lists.{none_some, cons_nil, append_nil, when_nil, numbered_nil, numbered_all, nth_within}
+use Rattle.table.proofs.Lists.{cons_nil, append_nil, when_nil, numbered_nil, numbered_all, nth_within}
 use Rattle.table.proofs.Bounds.{small_colour, small_latch}
 use Rattle.table.proofs.Finds.{first_within}
 use Rattle.loops.specs.declared.pair.Pair.{Pair}
-use Rattle.loops.specs.Graph.{Graph, Closed, Leads, largest}
+use Rattle.loops.specs.Graph.{Closed, Leads, largest}
 use Rattle.loops.specs.Table.{graph_of}
 
 nth_there : {A : Type 0} (xs : List A) (k : ℕ) → k < length xs → (x : A) × (slice_get xs k ≡ Some x)

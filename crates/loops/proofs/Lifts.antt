@@ -1,7 +1,7 @@
 -- Lifting a row to what an outcome asks for.
-use Rattle.std.proofs.Common.{◌≡◌, ℕ, ◌+◌, ◌<◌, ◌≤◌, cond, eqb, ◌⊎◌, sym, refl, ap, ◌∙◌, subst, inl, inr, ⊎_elim, arith}
+use Rattle.std.proofs.Common.{◌≡◌, ℕ, ◌+◌, ◌<◌, ◌≤◌, cond, eqb, sym, refl, ap, subst, ⊎_elim, arith}
 use Rattle.std.proofs.lemmas.Bool.{cases_eq, eq-eqb, ne_eqb, cond-true, cond-false}
-use Rattle.loops.specs.Graph.{Graph, Closed, due, Keeps}
+use Rattle.loops.specs.Graph.{Graph, Closed, due}
 use Rattle.loops.specs.Lifting.{StandsBy, Lifted}
 
 -- at first all ranks are 0

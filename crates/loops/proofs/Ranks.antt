@@ -1,8 +1,8 @@
 -- Ranks that keep the rule for a colour rule out its losing loops.
-use Rattle.std.proofs.Common.{◌≡◌, ℕ, ◌+◌, ◌<◌, ◌≤◌, cond, eqb, ◌⊎◌, List, [], ◌∷◌, sym, refl, ap, ◌∙◌, subst, inl, inr, ⊎_elim, arith}
+use Rattle.std.proofs.Common.{◌≡◌, ℕ, ◌<◌, ◌≤◌, cond, eqb, List, [], ◌∷◌, ap, ⊎_elim, arith}
 use Rattle.std.proofs.lemmas.Bool.{cases_eq, eq-eqb}
 use Rattle.loops.specs.declared.pair.Pair.{Pair}
-use Rattle.loops.specs.Graph.{Graph, Leads, largest, Losing, NoLoop, due, Keeps}
+use Rattle.loops.specs.Graph.{Graph, Leads, largest, NoLoop, Keeps}
 
 module _ (g : Graph) (p : ℕ) (rank : ℕ → ℕ) (keeps : Keeps g p rank) where
   -- along colours up to p no rank rises

@@ -1,10 +1,10 @@
 -- Rings of picked outcomes: after as many steps as there are rows one stands on such a ring, and it is a losing loop.
-use Rattle.std.proofs.Common.{◌≡◌, ℕ, zero, suc, ◌+◌, ◌-◌, ◌%◌, ◌<◌, ◌≤◌, max, cond, eqb, ◌≢◌, ◌⊎◌, List, [], ◌∷◌, ◌++◌, length, sym, refl, ap, ◌∙◌, subst, inl, inr, ⊎_elim, add-one, arith}
-use Rattle.std.specs.List.{AllByRecursion as All}
+use Rattle.std.proofs.Common.{◌≡◌, ℕ, zero, suc, ◌+◌, ◌-◌, ◌%◌, ◌<◌, ◌≤◌, cond, eqb, ◌≢◌, ◌⊎◌, List, [], ◌∷◌, ◌++◌, length, sym, refl, ap, ◌∙◌, subst, inl, inr, ⊎_elim, arith}
+use Rattle.std.specs.List.{AllByRecursion}
 use Rattle.std.proofs.lemmas.Bool.{cases_eq, cases_lt, eq-eqb, ne_eqb, cond-true, cond-false}
 use Rattle.loops.specs.declared.pair.Pair.{Pair}
-use Rattle.loops.specs.Graph.{Graph, Closed, Leads, largest, Simple, Losing, due}
-use Rattle.loops.specs.Lifting.{StandsBy, Lifted, after, way, OnRing}
+use Rattle.loops.specs.Graph.{Graph, Closed, Leads, largest, Simple, Losing}
+use Rattle.loops.specs.Lifting.{Lifted, after, way, OnRing}
 use Rattle.loops.proofs.Firsts.{First, some_or_none}
 
 -- of n + 1 numbers below n two are the same
@@ -81,7 +81,7 @@ module _ (g : Graph) (pick : ℕ → ℕ) where
   length_way (suc k) s = ap suc (length_way k (g.to s (pick s)))
 
   -- if no step comes to row x, neither does the way
-  absent : (k s x : ℕ) → ((j : ℕ) → j < k → after g pick j s ≢ x) → All (λ f. f.row ≢ x) (way g pick k s)
+  absent : (k s x : ℕ) → ((j : ℕ) → j < k → after g pick j s ≢ x) → AllByRecursion (λ f. f.row ≢ x) (way g pick k s)
   absent zero s x h = tt
   absent (suc k) s x h = (h 0 (omega arith), absent k (g.to s (pick s)) x (λ j b. h (suc j) (omega arith)))
 

@@ -1,20 +1,20 @@
 -- Accepted ranks keep the rule along the graph of a table, and ranks that keep it are accepted.
-use Rattle.std.proofs.Common.{◌≡◌, ℕ, zero, suc, ◌+◌, ◌-◌, ◌*◌, ◌/◌, ◌%◌, ◌<◌, ◌≤◌, Bool, true, false, cond, eqb, ltb, ◌⊎◌, List, [], ◌∷◌, ◌++◌, map, length, get_or, is_ok, Ok, Err, sym, refl, ap, ◌∙◌, subst, inl, inr, ⊎_elim, arith}
+use Rattle.std.proofs.Common.{◌≡◌, ℕ, zero, suc, ◌+◌, ◌*◌, ◌/◌, ◌%◌, ◌<◌, ◌≤◌, Bool, true, false, cond, eqb, ltb, ◌⊎◌, List, [], ◌∷◌, map, length, is_ok, Ok, sym, refl, ◌∙◌, subst, inl, inr, ⊎_elim, arith}
 use lib.Arith.{digits_lt, digits_div, digits_mod}
 use Rattle.std.specs.List.{range_with_len}
-use Rattle.std.proofs.lemmas.Bool.{and_from, eq-eqb, ne_eqb, eqb-true, cases_eq, cond-true, cond-false, both_ways}
+use Rattle.std.proofs.lemmas.Bool.{and_from, eq-eqb, ne_eqb, cases_eq, cond-true, cond-false, both_ways}
 use Rattle.std.proofs.lemmas.List.FromFn.{length-map-range_with_len, get_or-map-range_with_len}
 use Rattle.arena.specs.Meaning.{Meaning}
 use Rattle.table.specs.declared.row.Row.{Row}
 use Rattle.table.specs.declared.fault.Fault.{Fault}
-use Rattle.table.specs.declared.fault.Fault.TheVariants.{TooManyRows, WrongLengths}
+use Rattle.table.specs.declared.fault.Fault.TheVariants.{TooManyRows}
 use Rattle.table.specs.Ranks.{rank_of, keeps_for, keeps}
 use Rattle.table.specs.Check.{when, faults, verdict, outcomes_in, checked}
 use Rattle.table.proofs.Lists.{cons_nil, append_nil}
 use Rattle.table.proofs.Acceptance.{keeps_falls, falls_keeps, keeps_odd}
 use Rattle.loops.specs.declared.pair.Pair.{Pair}
-use Rattle.loops.specs.Graph.{Graph, Closed, Losing, NoLoop, due, Keeps}
-use Rattle.loops.specs.Table.{graph_of, any_round, WellFormed, Accepted, Loses, OneOf, Decided}
+use Rattle.loops.specs.Graph.{Graph, Closed, Losing, NoLoop, Keeps}
+use Rattle.loops.specs.Table.{graph_of, any_round, WellFormed, Accepted, Loses, Decided}
 use Rattle.loops.proofs.Ranks.{falls, falls_by, none_losing}
 use Rattle.loops.proofs.Decides.{ranks_or_loop}
 use Rattle.loops.proofs.Arcs.{closed, ruled, largest_small, refault}

@@ -1,6 +1,6 @@
 -- Rows and outcomes as a graph with coloured arcs: its losing loops, and the ranks that rule them out.
 use Rattle.std.specs.Prelude.{◌≡◌, ℕ, ◌+◌, ◌%◌, ◌<◌, ◌≤◌, max, cond, ◌≢◌, List, [], ◌∷◌, ◌==◌}
-use Rattle.std.specs.List.{AllByRecursion as All}
+use Rattle.std.specs.List.{AllByRecursion}
 use Rattle.loops.specs.declared.pair.Pair.{Pair}
 
 -- Row s, below the size, has so many outcomes; outcome i of it has a colour and leads to a row.
@@ -26,7 +26,7 @@ largest g (e ∷ es) = max (g.colour e.row e.outcome) (largest g es)
 -- no row twice
 abbrev pub Simple : List Pair → Type 0
 Simple [] = Unit {0}
-Simple (e ∷ es) = All (λ f. f.row ≢ e.row) es × Simple es
+Simple (e ∷ es) = AllByRecursion (λ f. f.row ≢ e.row) es × Simple es
 
 -- a losing loop: it leads back to its first row, has no row twice, and its largest colour is p, which is odd
 pub record Losing (g : Graph) (p : ℕ) (loop : List Pair) : Type 0 where

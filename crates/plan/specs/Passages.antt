@@ -1,6 +1,6 @@
 -- The passages of a table, in their order.
 use Rattle.std.specs.Prelude.{◌≡◌, ℕ, ◌<◌, ◌≤◌, true, List, [], ◌∷◌, ◌++◌, is_ok, Some, None, Option, Result}
-use Rattle.std.specs.List.{AllByRecursion as All}
+use Rattle.std.specs.List.{AllByRecursion}
 use Rattle.arena.specs.Meaning.{Meaning}
 use Rattle.arena.specs.declared.moves.Outcome.{Outcome}
 use Rattle.table.specs.declared.row.Row.{Row}
@@ -27,7 +27,7 @@ module _ {P : Type 0} (m : Meaning P) (rows : List (Row P)) where
 
 -- none comes from a row past s
 abbrev pub UpTo : ℕ → List Passage → Type 0
-UpTo s = All (λ x. x.from ≤ s)
+UpTo s = AllByRecursion (λ x. x.from ≤ s)
 
 -- what can come next after some passages of a table of n rows
 pub record Next (n : ℕ) (before : List Passage) (x : Passage) : Type 0 where

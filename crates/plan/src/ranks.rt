@@ -1,7 +1,7 @@
 //! The rule of the ranks.
 ghost use Rattle.std.specs.Prelude.{◌≡◌, ◌*◌, ◌<◌, ◌≤◌, length, ◌==◌};
 ghost use Rattle.table.specs.Ranks.{keeps_for};
-ghost use Rattle.table.specs.Ranks.{keeps as keepsAll};
+ghost use Rattle.table.specs.Ranks.{keeps as keeps_all};
 
 use crate::passage::Passage;
 use crate::visitor::Visitor;
@@ -28,7 +28,7 @@ fn keeps_for(ranks: &[u16], n: usize, p: u16, passage: Passage) -> bool
 /// Whether the ranks of n rows keep their rule at a passage.
 fn keeps(ranks: &[u16], n: usize, passage: Passage) -> bool
     requires { (length ranks.now ≡ 4 * n) × ((n ≤ 1024) × ((passage.from < n) × (passage.to < n))) }
-    ensures { result ≡ keepsAll ranks.now n passage.colour passage.from passage.to }
+    ensures { result ≡ keeps_all ranks.now n passage.colour passage.from passage.to }
 {
     keeps_for(ranks, n, 1, passage)
         && keeps_for(ranks, n, 3, passage)
@@ -45,7 +45,7 @@ pub(crate) struct RankTest<'a> {
 impl<'a> Visitor for RankTest<'a> {
     ghost fits = { λ v n. (length v.ranks.now == 4 * n) };
 
-    ghost rule = { λ v n. keepsAll v.ranks.now n };
+    ghost rule = { λ v n. keeps_all v.ranks.now n };
 
     ghost seen = { λ v n _. (length v.ranks.now ≡ 4 * n) × (n ≤ 1024) };
 

@@ -1,6 +1,6 @@
 -- Noting the arc of one more passage.
-use Rattle.std.proofs.Common.{◌≡◌, ℕ, suc, ◌+◌, ◌*◌, ◌^◌, ◌<◌, ◌≤◌, true, cond, eqb, ◌⊎◌, List, [], ◌∷◌, ◌++◌, length, get_or, set, replicate, count_by, sym, refl, ap, ◌∙◌, subst, inl, inr, ⊎_elim, arith}
-use Rattle.std.specs.List.{ContainsAt as Has, AllByRecursion as All}
+use Rattle.std.proofs.Common.{◌≡◌, ℕ, suc, ◌+◌, ◌*◌, ◌^◌, ◌<◌, ◌≤◌, cond, eqb, List, [], ◌∷◌, ◌++◌, length, get_or, set, replicate, count_by, sym, refl, ap, ◌∙◌, subst, ⊎_elim, arith}
+use Rattle.std.specs.List.{ContainsAt, AllByRecursion}
 use Rattle.std.proofs.lemmas.List.{length-set, length_push, length-replicate, get_or-set_same, get_or-set_other, get_or_push, get_or_append_left, get_or-replicate, get_or_past}
 use Rattle.std.proofs.ByRecursion.{All-push, All-weaker, all-has, has_push, has_push_cases, has_append_left}
 use Rattle.std.proofs.lemmas.List.Sums.{sum_by-set, count_by-le-length}
@@ -9,7 +9,7 @@ use Rattle.plan.specs.declared.passage.Passage.{Passage}
 use Rattle.plan.specs.Passages.{UpTo, Next}
 use Rattle.ranker.specs.declared.arc.Arc.{Arc}
 use Rattle.ranker.specs.Arcs.{arc_at}
-use Rattle.ranker.specs.Notes.{passage_of, key_of, Proper, Stands, Keyed, Noted}
+use Rattle.ranker.specs.Notes.{passage_of, key_of, Proper, Stands, Noted}
 
 -- at first there are none
 pub noted_none : (n : ℕ) (stamps : List ℕ) → n ≤ 1024 → stamps ≡ replicate 8192 0 → Noted n [] [] stamps
@@ -39,7 +39,7 @@ last_from s [] x up = (tt, up.0)
 last_from s (y ∷ before) x up = let r = last_from s before x up.1 in ((up.0, r.0), r.1)
 
 module _ (n : ℕ) (before : List Passage) (arcs : List Arc) (stamps : List ℕ) (x : Passage) (was : Noted n before arcs stamps) (next : Next n before x) where
-  proper : All (Proper n) (before ++ x ∷ [])
+  proper : AllByRecursion (Proper n) (before ++ x ∷ [])
   proper = All-push (Proper n) before x was.proper (record { from = next.from; to = next.to; colour = next.colour })
 
   -- more arcs than a row can have do not come together
@@ -64,7 +64,7 @@ module _ (n : ℕ) (before : List Passage) (arcs : List Arc) (stamps : List ℕ)
           true = λ k b. has_append_left before (x ∷ []) (passage_of (arc_at arcs k)) (was.true k b);
           whole = λ y h.
               ⊎_elim
-              (λ (o : Has before y). was.whole y o)
+              (λ (o : ContainsAt before y). was.whole y o)
               (λ (e : x ≡ y). let F : Passage → Type 0 = λ z. (k : ℕ) × Stands arcs z k in subst F e stands)
               (has_push_cases before x y h);
           stamped = was.stamped;
@@ -114,12 +114,12 @@ module _ (n : ℕ) (before : List Passage) (arcs : List Arc) (stamps : List ℕ)
               (λ (h : k < length arcs). rw (old k h) (has_append_left before (x ∷ []) (passage_of (arc_at arcs k)) (was.true k h)))
               (λ (h : length arcs ≤ k).
               let e : length arcs ≡ k = omega (arith, length_push arcs arc) in
-              let F : ℕ → Type 0 = λ j. Has (before ++ x ∷ []) (passage_of (arc_at arcs' j)) in
+              let F : ℕ → Type 0 = λ j. ContainsAt (before ++ x ∷ []) (passage_of (arc_at arcs' j)) in
               subst F e (rw added (has_push before x)))
               (cases_lt k (length arcs));
           whole = λ y h.
               ⊎_elim
-              (λ (o : Has before y).
+              (λ (o : ContainsAt before y).
               let w = was.whole y o in
               let e = old w.0 w.1.there in
               (w.0, record { there = omega (arith, length_push arcs arc, w.1.there); row = ap (λ (a : Arc). a.row) e ∙ w.1.row; colour = ap (λ (a : Arc). a.colour) e ∙ w.1.colour; to = ap (λ (a : Arc). a.to) e ∙ w.1.to }))

@@ -1,5 +1,5 @@
 -- Lifting along arcs.
-use Rattle.std.proofs.Common.{◌≡◌, ℕ, ◌+◌, ◌-◌, ◌<◌, ◌≤◌, cond, eqb, ◌⊎◌, List, length, get_or, set, sum_by, sym, refl, ap, ◌∙◌, subst, inl, inr, ⊎_elim, arith}
+use Rattle.std.proofs.Common.{◌≡◌, ℕ, ◌-◌, ◌<◌, ◌≤◌, List, length, get_or, set, sum_by, sym, ap, ◌∙◌, subst, ⊎_elim, arith}
 use Rattle.std.proofs.lemmas.List.{length-set, get_or-set_same, get_or-set_other}
 use Rattle.std.proofs.lemmas.List.Sums.{sum_by-set}
 use Rattle.std.proofs.lemmas.Bool.{cases_eq}
@@ -7,7 +7,7 @@ use Rattle.loops.specs.Graph.{Graph, due, Keeps}
 use Rattle.loops.specs.Lifting.{Lifted}
 use Rattle.loops.proofs.Lifts.{lifted_none, lifted_more}
 use Rattle.ranker.specs.declared.arc.Arc.{Arc}
-use Rattle.ranker.specs.Arcs.{arc_at, IsArc, StandsFor, Tells, Told}
+use Rattle.ranker.specs.Arcs.{arc_at, IsArc, Tells, Told}
 use Rattle.ranker.specs.Lifts.{rank_in, pick_in, due_by, Met, Below, slack, Lifts, Smallest}
 
 -- what an arc asks for is what its outcome asks for

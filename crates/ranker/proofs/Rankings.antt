@@ -1,5 +1,5 @@
 -- What the ranker's parts come to.
-use Rattle.std.proofs.Common.{◌≡◌, ℕ, ◌+◌, ◌*◌, ◌/◌, ◌%◌, ◌<◌, ◌≤◌, Bool, true, false, ◌&&◌, eqb, leb, ◌⊎◌, List, [], ◌∷◌, length, get_or, is_ok, Ok, Err, Decides, Result, sym, refl, ap, ◌∙◌, subst, inl, inr, arith}
+use Rattle.std.proofs.Common.{◌≡◌, ℕ, ◌+◌, ◌*◌, ◌%◌, ◌≤◌, true, false, eqb, leb, List, [], length, get_or, is_ok, Ok, Err, Decides, Result, sym, refl, ap, ◌∙◌, subst, inl, inr}
 use Rattle.std.proofs.lemmas.Bool.{and_parts, eqb-true, leb-true, both_ways}
 use Rattle.arena.specs.Meaning.{Meaning}
 use Rattle.table.specs.declared.row.Row.{Row}
@@ -13,7 +13,7 @@ use Rattle.loops.specs.Table.{graph_of, any_round, WellFormed}
 use Rattle.loops.proofs.Arcs.{few_rows}
 use Rattle.loops.proofs.Tables.{KeepsAll, fitting, place_of, by_place, kept_checked, kept_no_loop}
 use Rattle.ranker.specs.Lifts.{Smallest}
-use Rattle.ranker.specs.Loops.{Written, Drafted}
+use Rattle.ranker.specs.Loops.{Drafted}
 use Rattle.ranker.specs.Ranked.{form_faults, Fills, Refutes, Ranked, Sound}
 use Rattle.ranker.specs.Ranked as ranked
 

@@ -1,8 +1,8 @@
 -- The stretches of a rank list, drafted one after the other.
-use Rattle.std.proofs.Common.{◌≡◌, ℕ, suc, ◌+◌, ◌-◌, ◌*◌, ◌/◌, ◌%◌, ◌<◌, ◌≤◌, ◌⊎◌, List, ◌++◌, length, get_or, take, drop, sym, refl, ap, ◌∙◌, subst, ⊎_elim, mul-le-mul_right, arith, below_more}
+use Rattle.std.proofs.Common.{◌≡◌, ℕ, ◌+◌, ◌-◌, ◌*◌, ◌/◌, ◌<◌, ◌≤◌, List, ◌++◌, length, get_or, take, drop, sym, ap, ◌∙◌, subst, mul-le-mul_right, arith, below_more}
 use borrow.Rule.Slice.PartMut.{put_mid, post_of}
 use Rattle.std.proofs.lemmas.List.{length-take, length-drop, get_or-take, get_or_append_left, get_or-append_right}
-use Rattle.loops.specs.Graph.{Graph, Closed, Losing, NoLoop, Keeps}
+use Rattle.loops.specs.Graph.{Graph, Closed, Losing, NoLoop}
 use Rattle.loops.proofs.Ranks.{none_losing}
 use Rattle.loops.proofs.Tables.{keeps_same}
 use Rattle.ranker.specs.Lifts.{Smallest}

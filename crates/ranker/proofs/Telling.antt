@@ -1,6 +1,6 @@
 -- The arcs noted from all passages of a well-formed table tell of its graph.
-use Rattle.std.proofs.Common.{◌≡◌, ℕ, zero, suc, ◌+◌, ◌-◌, ◌<◌, ◌≤◌, ◌⊎◌, List, [], ◌∷◌, ◌++◌, length, get_or, Some, None, Option, sym, refl, ap, ◌∙◌, subst, inl, inr, ⊎_elim, arith}
-use Rattle.std.specs.List.{slice_get, ContainsAt as Has}
+use Rattle.std.proofs.Common.{◌≡◌, ℕ, zero, suc, ◌+◌, ◌-◌, ◌<◌, ◌≤◌, ◌⊎◌, List, [], ◌∷◌, ◌++◌, length, get_or, Some, None, Option, sym, refl, ◌∙◌, subst, inl, inr, ⊎_elim, arith}
+use Rattle.std.specs.List.{slice_get, ContainsAt}
 use Rattle.std.proofs.lemmas.List.{length-append, get_or_append_left, get_or-append_right}
 use Rattle.std.proofs.ByRecursion.{has_append_left, has_append_right}
 use Rattle.std.proofs.lemmas.Bool.{cases_lt}
@@ -14,44 +14,44 @@ use Rattle.table.proofs.Lists.{none_some, some_same, nth_within}
 use Rattle.plan.specs.declared.passage.Passage.{Passage}
 use Rattle.plan.specs.Passages.{passage_to, passage_at, passages_at, passages_in}
 use Rattle.loops.specs.Table.{graph_of, any_round, WellFormed}
-use Rattle.loops.proofs.Arcs.{Arc as Round, arc, arc_to, arc_colour, count_at, closed}
+use Rattle.loops.proofs.Arcs.{arc, arc_to, arc_colour, count_at, closed}
 use Rattle.ranker.specs.declared.arc.Arc.{Arc}
-use Rattle.ranker.specs.Arcs.{arc_at, IsArc, StandsFor, Tells}
+use Rattle.ranker.specs.Arcs.{arc_at, Tells}
 use Rattle.ranker.specs.Notes.{passage_of, Noted}
 
 -- what is in two lists one after the other
-has_append_cases : {X : Type 0} (xs ys : List X) (x : X) → Has (xs ++ ys) x → Has xs x ⊎ Has ys x
+has_append_cases : {X : Type 0} (xs ys : List X) (x : X) → ContainsAt (xs ++ ys) x → ContainsAt xs x ⊎ ContainsAt ys x
 has_append_cases xs ys x h =
     ⊎_elim
     (λ (b : h.0 < length xs). inl (h.0, b, λ d. sym (get_or_append_left xs ys d h.0 b) ∙ h.2 d))
     (λ (b : length xs ≤ h.0). inr (h.0 - length xs, omega (arith, h.1, length-append xs ys), λ d. sym (get_or-append_right xs ys (length xs) h.0 d refl b) ∙ h.2 d))
     (cases_lt h.0 (length xs))
 
-has_first : {X : Type 0} (x : X) (xs : List X) → Has (x ∷ xs) x
+has_first : {X : Type 0} (x : X) (xs : List X) → ContainsAt (x ∷ xs) x
 has_first x xs = (0, omega arith, λ d. refl)
 
 module _ {X Y : Type 0} (f : ℕ → X → List Y) where
   -- what is in a numbered list comes from one of its numbers, and back
-  numbered_has : (n : ℕ) (xs : List X) (y : Y) → Has (numbered f n xs) y → (k : ℕ) × (x : X) × (slice_get xs k ≡ Some x) × Has (f (n + k) x) y
+  numbered_has : (n : ℕ) (xs : List X) (y : Y) → ContainsAt (numbered f n xs) y → (k : ℕ) × (x : X) × (slice_get xs k ≡ Some x) × ContainsAt (f (n + k) x) y
   numbered_has n [] y h = absurd (omega (arith, h.1))
   numbered_has n (x ∷ xs) y h =
       ⊎_elim
-      (λ (a : Has (f n x) y). (0, x, refl, (let e : n + 0 ≡ n = omega arith in rw e a)))
-      (λ (a : Has (numbered f (suc n) xs) y).
+      (λ (a : ContainsAt (f n x) y). (0, x, refl, (let e : n + 0 ≡ n = omega arith in rw e a)))
+      (λ (a : ContainsAt (numbered f (suc n) xs) y).
       let r = numbered_has (suc n) xs y a in
       (suc r.0, r.1, r.2, (let e : n + suc r.0 ≡ suc n + r.0 = omega arith in rw e r.3)))
       (has_append_cases (f n x) (numbered f (suc n) xs) y h)
 
-  has_numbered : (n : ℕ) (xs : List X) (y : Y) (k j : ℕ) (x : X) → n + k ≡ j → slice_get xs k ≡ Some x → Has (f j x) y → Has (numbered f n xs) y
+  has_numbered : (n : ℕ) (xs : List X) (y : Y) (k j : ℕ) (x : X) → n + k ≡ j → slice_get xs k ≡ Some x → ContainsAt (f j x) y → ContainsAt (numbered f n xs) y
   has_numbered n [] y k j x e q h = absurd (none_some q)
   has_numbered n (z ∷ xs) y zero j x e q h =
       has_append_left (f n z) (numbered f (suc n) xs) y
-      (let i : n ≡ j = omega arith in let F : ℕ → X → Type 0 = λ a b. Has (f a b) y in rw (i, some_same q) h)
+      (let i : n ≡ j = omega arith in let F : ℕ → X → Type 0 = λ a b. ContainsAt (f a b) y in rw (i, some_same q) h)
   has_numbered n (z ∷ xs) y (suc k) j x e q h =
       has_append_right (f n z) (numbered f (suc n) xs) y (has_numbered (suc n) xs y k j x (omega arith) q h)
 
 -- an outcome's passage, told by its row
-to_has : (s i c : ℕ) (o : Option ℕ) (x : Passage) → Has (passage_to s i c o) x → (t : ℕ) × (o ≡ Some t) × (record { from = s; outcome = i; colour = c; to = t } ≡ x)
+to_has : (s i c : ℕ) (o : Option ℕ) (x : Passage) → ContainsAt (passage_to s i c o) x → (t : ℕ) × (o ≡ Some t) × (record { from = s; outcome = i; colour = c; to = t } ≡ x)
 to_has s i c None x h = absurd (omega (arith, h.1))
 to_has s i c (Some t) x h =
     let k : h.0 ≡ 0 = omega (arith, h.1) in
@@ -76,7 +76,7 @@ module _ {P : Type 0} (m : Meaning P) (rows : List (Row P)) where
         to = rw (here, gives, leads);
       }
 
-  told : (x : Passage) → Has (passages_in m rows) x → Told x
+  told : (x : Passage) → ContainsAt (passages_in m rows) x → Told x
   told x h =
       let a = numbered_has (passages_at m rows) 0 rows x h in
       let s = 0 + a.0 in
@@ -91,11 +91,11 @@ module _ {P : Type 0} (m : Meaning P) (rows : List (Row P)) where
 
   -- and each outcome of the graph has its passage
   passed : WellFormed m rows → (s i : ℕ) → s < length rows → i < (graph_of m rows).count s →
-      Has (passages_in m rows) (record { from = s; outcome = i; colour = (graph_of m rows).colour s i; to = (graph_of m rows).to s i })
+      ContainsAt (passages_in m rows) (record { from = s; outcome = i; colour = (graph_of m rows).colour s i; to = (graph_of m rows).to s i })
   passed wf s i b k =
       let a = arc m rows any_round wf s i b k in
       let x : Passage = record { from = s; outcome = i; colour = (graph_of m rows).colour s i; to = (graph_of m rows).to s i } in
-      let one : Has (passage_at m rows s a.row.latch i a.outcome) x =
+      let one : ContainsAt (passage_at m rows s a.row.latch i a.outcome) x =
       rw (a.leads, arc_to m rows any_round s i a, arc_colour m rows any_round s i a) (has_first (record { from = s; outcome = i; colour = colour_of a.row.latch a.outcome; to = a.target }) []) in
       has_numbered (passages_at m rows) 0 rows x s s a.row (omega arith) a.there
       (has_numbered (passage_at m rows s a.row.latch) 0 (outcomes_of m a.row) x i i a.outcome (omega arith) a.gives one)

@@ -1,13 +1,13 @@
 -- A ring as it is written to the front of a list.
-use Rattle.std.proofs.Common.{◌≡◌, ℕ, suc, ◌+◌, ◌%◌, ◌<◌, ◌≤◌, ◌⊎◌, List, [], ◌∷◌, ◌++◌, length, get_or, drop, set, sym, refl, ap, ◌∙◌, subst, ⊎_elim, add-one, arith}
+use Rattle.std.proofs.Common.{◌≡◌, ℕ, suc, ◌+◌, ◌%◌, ◌<◌, ◌≤◌, List, [], ◌∷◌, ◌++◌, length, get_or, drop, set, sym, refl, ap, ◌∙◌, subst, ⊎_elim, add-one, arith}
 use Rattle.std.proofs.lemmas.List.{drop_more, set_at, append_assoc}
 use Rattle.std.proofs.lemmas.Bool.{cases_eq, cases_lt}
 use Rattle.loops.specs.declared.pair.Pair.{Pair}
-use Rattle.loops.specs.Graph.{Graph, Losing}
+use Rattle.loops.specs.Graph.{Graph}
 use Rattle.loops.specs.Lifting.{after, way, OnRing}
 use Rattle.loops.proofs.Rings.{after_more, way_more, length_way, ring_loses}
 use Rattle.ranker.specs.declared.arc.Arc.{Arc}
-use Rattle.ranker.specs.Arcs.{arc_at, Tells, Told}
+use Rattle.ranker.specs.Arcs.{arc_at, Tells}
 use Rattle.ranker.specs.Lifts.{rank_in, pick_in}
 use Rattle.ranker.specs.Loops.{Written, Ringed}
 use Rattle.ranker.proofs.Raises.{leads}

@@ -1,5 +1,5 @@
 -- Arcs as a list.
-use Rattle.std.specs.Prelude.{◌≡◌, ℕ, ◌<◌, ◌≤◌, List, length, slice_index_or}
+use Rattle.std.specs.Prelude.{◌≡◌, ℕ, ◌<◌, List, length, slice_index_or}
 use Rattle.loops.specs.Graph.{Graph, Closed}
 use Rattle.ranker.specs.declared.arc.Arc.{Arc}
 

@@ -1,11 +1,10 @@
 -- A losing loop at the front of a list.
-use Rattle.std.specs.Prelude.{◌≡◌, ℕ, ◌+◌, ◌*◌, ◌%◌, ◌<◌, ◌≤◌, List, ◌++◌, length, drop, Ok, Err, Result, slice_index}
+use Rattle.std.specs.Prelude.{◌≡◌, ℕ, ◌+◌, ◌*◌, ◌<◌, List, ◌++◌, length, drop, Ok, Err, Result, slice_index}
 use Rattle.table.specs.declared.fault.Fault.{Fault}
 use Rattle.table.specs.declared.fault.Fault.TheVariants.{LosingLoop}
 use Rattle.loops.specs.declared.pair.Pair.{Pair}
 use Rattle.loops.specs.Graph.{Graph, Losing, NoLoop}
 use Rattle.ranker.specs.declared.arc.Arc.{Arc}
-use Rattle.ranker.specs.Arcs.{Tells}
 use Rattle.ranker.specs.Lifts.{Lifts, OnRings, Smallest}
 
 -- a losing loop of length k and largest colour p stands at the front, and what comes after it is as it was

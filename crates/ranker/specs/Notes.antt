@@ -1,6 +1,6 @@
 -- Arcs noted from the passages shown so far.
 use Rattle.std.specs.Prelude.{◌≡◌, ℕ, suc, ◌+◌, ◌*◌, ◌<◌, ◌≤◌, List, length, count_by, nat_eq, slice_index}
-use Rattle.std.specs.List.{ContainsAt as Has, AllByRecursion as All}
+use Rattle.std.specs.List.{ContainsAt, AllByRecursion}
 use Rattle.plan.specs.declared.passage.Passage.{Passage}
 use Rattle.plan.specs.Passages.{UpTo}
 use Rattle.ranker.specs.declared.arc.Arc.{Arc}
@@ -38,8 +38,8 @@ pub record Keyed (arcs : List Arc) (key v k : ℕ) : Type 0 where
 pub record Noted (n : ℕ) (before : List Passage) (arcs : List Arc) (stamps : List ℕ) : Type 0 where
   pub few : n ≤ 1024
   pub keys : length stamps ≡ 8192
-  pub proper : All (Proper n) before
-  pub true : (k : ℕ) → k < length arcs → Has before (passage_of (arc_at arcs k))
-  pub whole : (x : Passage) → Has before x → (k : ℕ) × Stands arcs x k
+  pub proper : AllByRecursion (Proper n) before
+  pub true : (k : ℕ) → k < length arcs → ContainsAt before (passage_of (arc_at arcs k))
+  pub whole : (x : Passage) → ContainsAt before x → (k : ℕ) × Stands arcs x k
   pub stamped : (key v : ℕ) → slice_index stamps key ≡ suc v → (k : ℕ) × Keyed arcs key v k
   pub spare : (s : ℕ) → UpTo s before → length arcs ≤ 8192 * s + count_by (λ v. nat_eq v (suc s)) stamps

@@ -1,6 +1,6 @@
 -- Time and ticks: rounds, each a delay in grains of the scale of that moment, and finer scales between them.
 use Rattle.std.specs.Prelude.{◌≡◌, ℕ, ◌+◌, ◌*◌, ◌<◌, ◌≤◌, min, Bool, cond, List, [], ◌∷◌, nat_le}
-use Rattle.std.specs.List.{AllByRecursion as All}
+use Rattle.std.specs.List.{AllByRecursion}
 use Rattle.regions.specs.Code.{tick_ceiling}
 
 -- a round with its delay, or a scale that is finer by a factor
@@ -44,7 +44,7 @@ scalings [] = 1
 scalings (e ∷ es) = scalings es * scaling e
 
 abbrev pub Finer : List Event → Type 0
-Finer es = All (λ e. 0 < scaling e) es
+Finer es = AllByRecursion (λ e. 0 < scaling e) es
 
 -- from the beginning, at D grains to the unit
 abbrev pub since : ℕ → List Event → Timing

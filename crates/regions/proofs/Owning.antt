@@ -1,6 +1,6 @@
 -- What a region of its clocks has, as a test and as a fact.
 use Rattle.std.proofs.Common.{◌≡◌, ℕ, zero, suc, ◌+◌, ◌<◌, ◌≤◌, Bool, true, cond, eqb, ◌⊎◌, List, [], ◌∷◌, Some, sym, refl, ap, ◌∙◌, inl, inr, add-one, arith}
-use Rattle.std.specs.List.{AllByRecursion as All}
+use Rattle.std.specs.List.{AllByRecursion}
 use Rattle.std.proofs.lemmas.Bool.{cases_order, cases_Bool, and_parts, and_from, eq-eqb, eqb-true}
 use Rattle.std.proofs.lemmas.Bool.Decides.{nat_tests}
 use Rattle.clocks.specs.Regions.{Part, seen, top, upto, next, ranked, zeroed, Within, Own}
@@ -18,11 +18,11 @@ within_from p h = (grind (arith, nat_tests), λ k. grind (arith, nat_tests))
 within_to : (p : Part) → Within p → within p ≡ true
 within_to p h = grind (arith, nat_tests)
 
-every_from : (r : List Part) → every within r ≡ true → All Within r
+every_from : (r : List Part) → every within r ≡ true → AllByRecursion Within r
 every_from [] h = tt
 every_from (p ∷ r) h = let t = and_parts (within p) (every within r) h in (within_from p t.0, every_from r t.1)
 
-every_to : (r : List Part) → All Within r → every within r ≡ true
+every_to : (r : List Part) → AllByRecursion Within r → every within r ≡ true
 every_to [] h = refl
 every_to (p ∷ r) h = and_from (within p) (every within r) (within_to p h.0) (every_to r h.1)
 

@@ -1,7 +1,7 @@
 -- Each round played is an outcome, and each outcome can be played.
 use Rattle.std.proofs.Common.{◌≡◌, ℕ, ◌+◌, ◌*◌, ◌<◌, ◌≤◌, min, Bool, true, false, cond, ltb, List, [], ◌∷◌, map, Some, None, Option, sym, refl, ap, ◌∙◌, subst, inl, inr, mul-le-mul_right, arith}
 use mathlib.Core.List.{map-map}
-use Rattle.std.specs.List.{AllByRecursion as All}
+use Rattle.std.specs.List.{AllByRecursion}
 use Rattle.std.proofs.lemmas.Bool.{cases_order, cases_lt, and_parts, and_from, lt-ltb, le-ltb}
 use Rattle.arena.specs.declared.moves.Side.{Side}
 use Rattle.arena.specs.declared.moves.Side.TheVariants.{Us, Them}
@@ -67,7 +67,7 @@ module _ (g : Game) (D l : ℕ) (xs : List Clock) where
   round_us d e f = ap (λ s. round_by g D l xs s (of_side s d d) (of_side s e f)) (winner_us d)
 
 -- later than 16 units all clocks are past
-module _ (D : ℕ) (xs : List Clock) (h : All (λ x. x.ceiling ≤ 15) xs) where
+module _ (D : ℕ) (xs : List Clock) (h : AllByRecursion (λ x. x.ceiling ≤ 15) xs) where
   spot_capped : 0 < D → (d : ℕ) (x : Clock) → x.ceiling ≤ 15 → spot D (clock x.ceiling (x.reading + d)) ≡ spot D (clock x.ceiling (x.reading + min d (16 * D)))
   spot_capped z d x c = elim (cases_lt (16 * D) d) [
     | inl l ↦
@@ -83,7 +83,7 @@ module _ (D : ℕ) (xs : List Clock) (h : All (λ x. x.ceiling ≤ 15) xs) where
       ∙ sym (map-map (spot D) (λ x. clock x.ceiling (x.reading + min d (16 * D))) xs))
 
 -- every wait is a delay of at most 16 units, and each shorter wait a shorter delay
-waits_capped : (D : ℕ) (xs : List Clock) → 0 < D → All (λ x. x.ceiling ≤ 15) (finer 2 xs) → (n : ℕ) (r : List Part) → waits n (region_of D xs) ≡ Some r
+waits_capped : (D : ℕ) (xs : List Clock) → 0 < D → AllByRecursion (λ x. x.ceiling ≤ 15) (finer 2 xs) → (n : ℕ) (r : List Part) → waits n (region_of D xs) ≡ Some r
     → (d : ℕ) × (region_of (2 * D) (later d (finer 2 xs)) ≡ r) × (d ≤ 16 * (2 * D))
     × ((j : ℕ) → j ≤ n → (e : ℕ) × (e ≤ d) × (waits j (region_of D xs) ≡ Some (region_of (2 * D) (later e (finer 2 xs)))))
 waits_capped D xs z h n r w =
@@ -95,10 +95,10 @@ waits_capped D xs z h n r w =
       λ j l. let u = t.3 j l in (min u.0 (16 * (2 * D)), omega arith, u.2 ∙ ap Some (capped (2 * D) (finer 2 xs) h y u.0)),
     )
 
-low_clocks : (g : Game) → sound g ≡ true → (xs : List Clock) → ClocksOf g xs → All (λ x. x.ceiling ≤ 15) xs
-low_clocks g s xs c = back xs (subst (All (λ n. n ≤ 15)) (sym c) (sound_ceilings g s))
+low_clocks : (g : Game) → sound g ≡ true → (xs : List Clock) → ClocksOf g xs → AllByRecursion (λ x. x.ceiling ≤ 15) xs
+low_clocks g s xs c = back xs (subst (AllByRecursion (λ n. n ≤ 15)) (sym c) (sound_ceilings g s))
   where
-    back : (xs : List Clock) → All (λ n. n ≤ 15) (map (λ x. x.ceiling) xs) → All (λ x. x.ceiling ≤ 15) xs
+    back : (xs : List Clock) → AllByRecursion (λ n. n ≤ 15) (map (λ x. x.ceiling) xs) → AllByRecursion (λ x. x.ceiling ≤ 15) xs
     back [] h = tt
     back (x ∷ xs) h = (h.0, back xs h.1)
 

@@ -1,5 +1,5 @@
 -- A table without faults is one that is accepted in so many words, and the other way round.
-use Rattle.std.proofs.Common.{◌≡◌, ℕ, ◌*◌, ◌%◌, ◌<◌, ◌≤◌, Bool, true, false, cond, not, eqb, ltb, leb, ◌⊎◌, List, [], ◌∷◌, length, is_some as option_is_some, is_ok, Some, None, Decides, Option, sym, refl, ◌∙◌, subst, inl, inr, ⊎_elim, arith}
+use Rattle.std.proofs.Common.{◌≡◌, ℕ, ◌*◌, ◌%◌, ◌<◌, ◌≤◌, Bool, true, false, cond, not, eqb, ltb, leb, ◌⊎◌, List, [], ◌∷◌, length, is_some, is_ok, Some, None, Decides, Option, sym, refl, ◌∙◌, subst, inl, inr, ⊎_elim, arith}
 use Rattle.std.specs.List.{slice_get}
 use Rattle.std.proofs.lemmas.Bool.{and_parts, or_cases, or_left, or_right, not-false, not_from_true, eqb-true, eqb-false, eq-eqb, ne_eqb, ltb-true, ltb-false, lt-ltb, le-ltb, leb-true, le-leb, cases_eq, cases_lt, both_ways}
 use Rattle.arena.specs.Meaning.{Meaning, Lawful}
@@ -67,9 +67,9 @@ keeps_odd ranks n c s t p e o b =
     (⊎_elim (λ (x : p ≡ 5). subst F (sym x) five.0) (λ (x : p ≡ 7). subst F (sym x) five.1)))
     (odd p o b)
 
-is_some : {A : Type 0} (o : Option A) → option_is_some o ≡ true → (x : A) × (o ≡ Some x)
-is_some None e = absurd (both_ways true (sym e) refl)
-is_some (Some x) e = (x, refl)
+some_value : {A : Type 0} (o : Option A) → is_some o ≡ true → (x : A) × (o ≡ Some x)
+some_value None e = absurd (both_ways true (sym e) refl)
+some_value (Some x) e = (x, refl)
 
 not_before : (s t : ℕ) (o : Option ℕ) → is_before s o ≡ false → o ≡ Some t → s ≤ t
 not_before s t None e h = absurd (none_some h)
@@ -80,7 +80,7 @@ record Clean {P : Type 0} (m : Meaning P) (rows : List (Row P)) (rule : ℕ → 
   few : ltb 1024 (length rows) ≡ false
   four : not fit ≡ false
   places : numbered (place_faults m rows) 0 rows ≡ []
-  first : not (option_is_some (start_row m rows)) ≡ false
+  first : not (is_some (start_row m rows)) ≡ false
   moves : numbered (move_faults m rows rule) 0 rows ≡ []
 
 module _ {P : Type 0} (m : Meaning P) (rows : List (Row P)) (rule : ℕ → ℕ → ℕ → Bool) (fit : Bool) where
@@ -138,7 +138,7 @@ module _ {P : Type 0} (m : Meaning P) (ok : Lawful m) (rows : List (Row P)) (ran
               let l = and_parts (leb (m.priority r.position) r.latch) _ q.1 in
               (q.0, leb-true _ _ l.0, leb-true _ _ l.1);
           apart = λ s t p l x y. some_same (sym (first_here s p l x) ∙ first_here t p l y);
-          starts = let f = is_some (start_row m rows) (not-false _ c.first) in (f.0, first_stands m _ _ ok rows f.0 f.1);
+          starts = let f = some_value (start_row m rows) (not-false _ c.first) in (f.0, first_stands m _ _ ok rows f.0 f.1);
           legal = λ s r e. (move s r e).0;
           leads = λ s i r o e h. let f = target s i r o e h in (f.0, first_stands m _ _ ok rows f.0 f.1);
           falls = λ s i t p r o e h x od b.

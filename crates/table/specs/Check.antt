@@ -1,5 +1,5 @@
 -- What the check answers: the first of all faults in the order of the tests, or the numbers of rows and outcomes.
-use Rattle.std.specs.Prelude.{ℕ, suc, ◌+◌, ◌*◌, Bool, false, cond, not, ◌&&◌, List, [], ◌∷◌, ◌++◌, length, is_some, Some, None, Ok, Err, sum_by, Option, Result, ◌==◌, nat_le, nat_lt}
+use Rattle.std.specs.Prelude.{ℕ, suc, ◌*◌, Bool, false, cond, not, ◌&&◌, List, [], ◌∷◌, ◌++◌, length, is_some, Some, None, Ok, Err, sum_by, Option, Result, ◌==◌, nat_le, nat_lt}
 use Rattle.arena.specs.Meaning.{Meaning}
 use Rattle.arena.specs.declared.moves.Outcome.{Outcome}
 use Rattle.table.specs.declared.row.Row.{Row}

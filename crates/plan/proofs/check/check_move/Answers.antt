@@ -1,6 +1,6 @@
-use Rattle.std.proofs.Common.{◌≡◌, ℕ, List, length, sym, refl, ap, ◌∙◌, subst, arith}
+use Rattle.std.proofs.Common.{length, sym, refl, ap, arith}
 use Rattle.plan.specs.Passages.{passages_at}
-use Rattle.plan.proofs.Visits.{Partly, partly_ready, through_none, through_more}
+use Rattle.plan.proofs.Visits.{partly_ready, through_none, through_more}
 use Rattle.plan.proofs.check.check_move.Goals as goal
 
 pub loop-outcome-init : goal.loop-outcome-init

@@ -1,4 +1,4 @@
-use Rattle.std.proofs.Common.{◌≡◌, ℕ, ◌<◌, List, ◌++◌, length, Some, sym, ap, ◌∙◌, subst, arith}
+use Rattle.std.proofs.Common.{◌≡◌, ◌<◌, List, ◌++◌, length, Some, sym, ap, ◌∙◌, subst, arith}
 use Rattle.table.specs.Rows.{row_after, first_row}
 use Rattle.table.proofs.Finds.{first_within}
 use Rattle.plan.specs.declared.passage.Passage.{Passage}

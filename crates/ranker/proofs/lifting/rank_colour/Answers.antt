@@ -1,7 +1,6 @@
-use Rattle.std.proofs.Common.{◌≡◌, ℕ, ◌<◌, List, length, get_or, ap, ◌∙◌, subst, arith, rules}
+use Rattle.std.proofs.Common.{◌≡◌, ℕ, ◌<◌, List, length, get_or, ap, ◌∙◌, arith, rules}
 use Rattle.std.proofs.lemmas.List.{get_or-replicate}
 use Rattle.ranker.specs.Lifts.{rank_in}
-use Rattle.ranker.specs.Arcs.{Tells, Told}
 use Rattle.ranker.proofs.Raises.{lifts_none, met_smallest}
 use Rattle.ranker.proofs.lifting.rank_colour.Goals as goal
 

@@ -1,5 +1,4 @@
 use Rattle.std.proofs.Common.{◌≡◌, ℕ, ◌<◌, length, sym, ap, ◌∙◌, subst, arith, below_more}
-use Rattle.loops.specs.Graph.{Graph}
 use Rattle.loops.specs.Lifting.{after, OnRing}
 use Rattle.loops.proofs.Rings.{after_more, most_steps, on_ring}
 use Rattle.ranker.specs.Lifts.{rank_in, pick_in}

@@ -1,4 +1,4 @@
-use Rattle.std.proofs.Common.{◌≡◌, ℕ, ◌+◌, ◌-◌, ◌*◌, ◌≤◌, List, sym, refl, ◌∙◌, subst, arith}
+use Rattle.std.proofs.Common.{ℕ, ◌+◌, ◌-◌, ◌*◌, List, sym, refl, ◌∙◌, subst, arith}
 use Rattle.loops.specs.declared.pair.Pair.{Pair}
 use Rattle.ranker.specs.Arcs.{Tells, Told}
 use Rattle.ranker.specs.Loops.{Written}

@@ -1,4 +1,4 @@
-use Rattle.std.proofs.Common.{◌≡◌, ◌≤◌, List, length, Err, vec_items, sym, refl, ap, ◌∙◌, subst, arith}
+use Rattle.std.proofs.Common.{List, length, Err, vec_items, sym, refl, ap, ◌∙◌, subst, arith}
 use Rattle.std.proofs.lemmas.Result.{err_from_is_err_and}
 use Rattle.loops.specs.Table.{graph_of}
 use Rattle.ranker.specs.declared.arc.Arc.{Arc}

@@ -1,6 +1,5 @@
-use Rattle.std.proofs.Common.{◌≡◌, ℕ, suc, ◌<◌, List, length, get_or, vec_items, sym, refl, ap, ◌∙◌, subst, add-one, arith}
-use Rattle.ranker.specs.declared.arc.Arc.{Arc}
-use Rattle.ranker.specs.Notes.{Noted, key_of}
+use Rattle.std.proofs.Common.{◌≡◌, suc, ◌<◌, length, get_or, vec_items, refl, ◌∙◌, add-one, arith}
+use Rattle.ranker.specs.Notes.{key_of}
 use Rattle.ranker.proofs.Noting.{noted_same, noted_more, room}
 use Rattle.ranker.proofs.notes.NotesVisitor.visit.Goals as goal
 

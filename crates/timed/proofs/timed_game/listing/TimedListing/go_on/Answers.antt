@@ -1,4 +1,4 @@
-use Rattle.std.proofs.Common.{◌-◌, [], sym, ap, ◌∙◌, arith}
+use Rattle.std.proofs.Common.{[], sym, ap, ◌∙◌, arith}
 use Rattle.arena.specs.Meaning.{handed}
 use Rattle.regions.specs.Standing.{standing}
 use Rattle.timed.proofs.Listing.{no_more, one_more}
