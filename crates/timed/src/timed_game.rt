@@ -1,6 +1,6 @@
 //! A timed game that keeps its rules.
 pub mod answers;
-pub mod arena;
+pub mod as_arena;
 pub mod listing;
 pub mod making;
 

@@ -1,7 +1,7 @@
 use Rattle.std.proofs.Common.{◌≡◌, ◌+◌, length}
 use Rattle.timed.specs.Code.{game_of}
 use Rattle.timed.specs.Rest.{rest_of}
-use Rattle.timed.proofs.timed_game.arena.TimedGameArena.count.Given as goal
+use Rattle.timed.proofs.timed_game.as_arena.TimedGameArena.count.Given as goal
 
 -- those counted and those to come are all
 abbrev pub invariant-loop-count : goal.invariant-loop-count

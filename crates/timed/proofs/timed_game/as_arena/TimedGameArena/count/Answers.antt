@@ -1,7 +1,7 @@
 use Rattle.std.proofs.Common.{length, ap, arith}
 use Rattle.timed.specs.Code.{game_of}
 use Rattle.timed.proofs.Listing.{outcomes_bound}
-use Rattle.timed.proofs.timed_game.arena.TimedGameArena.count.Goals as goal
+use Rattle.timed.proofs.timed_game.as_arena.TimedGameArena.count.Goals as goal
 
 pub overflow_add-count : goal.overflow_add-count
 overflow_add-count c =

@@ -2,7 +2,7 @@ use Rattle.std.proofs.Common.{◌≡◌, length}
 use Rattle.std.specs.List.{slice_get}
 use Rattle.timed.specs.Code.{game_of}
 use Rattle.timed.specs.Rest.{rest_of}
-use Rattle.timed.proofs.timed_game.arena.TimedGameArena.outcome.Given as goal
+use Rattle.timed.proofs.timed_game.as_arena.TimedGameArena.outcome.Given as goal
 
 -- the one that is sought is so many on
 abbrev pub invariant-loop-outcome : goal.invariant-loop-outcome

@@ -2,7 +2,7 @@ use Rattle.std.proofs.Common.{◌∙◌, arith}
 use Rattle.timed.specs.Code.{game_of}
 use Rattle.timed.specs.Rest.{rest_of}
 use Rattle.timed.proofs.Listing.{nth_after}
-use Rattle.timed.proofs.timed_game.arena.TimedGameArena.outcome.Goals as goal
+use Rattle.timed.proofs.timed_game.as_arena.TimedGameArena.outcome.Goals as goal
 
 pub loop-outcome-preserved : goal.loop-outcome-preserved
 loop-outcome-preserved c =
