@@ -1,5 +1,5 @@
 -- Verdicts as lines, without their line feed.
-use Rattle.std.specs.Prelude.{ℕ, List, [], ◌∷◌, ◌++◌, codes, decimal}
+use Rattle.std.specs.Prelude.{ℕ, List, ◌∷◌, ◌++◌, codes, decimal}
 use Rattle.table.specs.declared.fault.Fault.{Fault}
 use Rattle.table.specs.Faults as table
 use Rattle.casetext.specs.declared.fault.TextFault.{TextFault}

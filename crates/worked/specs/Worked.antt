@@ -1,5 +1,5 @@
 -- The worked examples: a small game with a plan, what comes of changes to it, some regions and some intervals.
-use Rattle.std.specs.Prelude.{◌≡◌, ℕ, ◌≤◌, Bool, true, false, cond, List, [], ◌∷◌, ◌++◌, map, length, Some, None, Ok, Err, codes, Result, ◌==◌}
+use Rattle.std.specs.Prelude.{◌≡◌, ℕ, ◌≤◌, cond, List, [], ◌∷◌, ◌++◌, map, length, Some, Ok, Err, codes, Result, ◌==◌}
 use Prim.Native.String.{String}
 use Rattle.clocks.specs.Regions.{Clock, clock, part, region_of, waits}
 use Rattle.table.specs.declared.accepted.Accepted as answers
