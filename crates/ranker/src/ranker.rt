@@ -28,7 +28,7 @@ fn write_loop(arcs: &[Arc], by: &[u32], row: u16, losing: &mut [Pair]) -> u16
 {
     let mut at = row;
     let mut length = 0;
-    loop {
+    'ring: loop {
         let arc = arcs[by[at as usize] as usize];
         losing[length as usize] = Pair {
             row: at,
