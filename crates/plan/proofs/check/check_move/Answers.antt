@@ -1,4 +1,4 @@
-use Rattle.std.proofs.Common.{length, sym, refl, ap, arith}
+use Rattle.std.proofs.Common.{◌≡◌, true, length, refl, ap, arith, rules}
 use Rattle.plan.specs.Passages.{passages_at}
 use Rattle.plan.proofs.Visits.{partly_ready, through_none, through_more}
 use Rattle.plan.proofs.check.check_move.Goals as goal
@@ -23,7 +23,8 @@ pub overflow_add-number : goal.overflow_add-number
 overflow_add-number g c =
     let arena = c.args.table.now.arena.now in
     let row = c.args.row.now in
-    omega (arith, c.loop-outcome.invariant.count, ap length c.in-Some.ensures, ((g.met.A.Arena.lawful arena).counts row.position row.choice (sym c.if-not-legal.ensures)).1)
+    let legal : (g.A.Arena.meaning arena).legal row.position row.choice ≡ true = search rules in
+    omega (arith, c.loop-outcome.invariant.count, ap length c.in-Some.ensures, ((g.met.A.Arena.lawful arena).counts row.position row.choice legal).1)
 
 pub loop-outcome-preserved : goal.loop-outcome-preserved
 loop-outcome-preserved g c =

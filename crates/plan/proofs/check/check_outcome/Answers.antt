@@ -1,4 +1,5 @@
-use Rattle.std.proofs.Common.{◌≡◌, ◌<◌, List, ◌++◌, length, Some, sym, ap, ◌∙◌, subst, arith}
+use Rattle.std.proofs.Common.{◌≡◌, ◌<◌, List, ◌++◌, length, Some, sym, ap, ◌∙◌, subst, arith, rules}
+use Rattle.table.specs.Colours.{colour_of}
 use Rattle.table.specs.Rows.{row_after, first_row}
 use Rattle.table.proofs.Finds.{first_within}
 use Rattle.plan.specs.declared.passage.Passage.{Passage}
@@ -19,7 +20,8 @@ visit-requires g c =
     let leads : row_after m table.rows.now c.args.latch c.args.outcome.now ≡ Some c.in-Some.t =
     ap (first_row m table.rows.now c.args.outcome.now.position) (sym c.latch_after-next.ensures) ∙ sym c.in-Some.ensures in
     let r = c.requires.ready in
-    (r.0, (r.1.0, passage_next m table.rows.now c.args.s c.args.latch c.args.number c.in-Some.t c.colour_of.result c.args.outcome.now leads c.colour_of.ensures (omega arith) (omega arith) r.0 r.1.1))
+    let is : c.colour_of.result ≡ colour_of c.args.latch c.args.outcome.now = search rules in
+    (r.0, (r.1.0, passage_next m table.rows.now c.args.s c.args.latch c.args.number c.in-Some.t c.colour_of.result c.args.outcome.now leads is (omega arith) (omega arith) r.0 r.1.1))
 
 pub returns-then-visit : goal.returns-then-visit
 returns-then-visit g c =
@@ -33,7 +35,7 @@ returns-then-visit g c =
     let o = c.args.outcome.now in
     let k = c.colour_of.result in
     let leads : row_after m rows l o ≡ Some t = ap (first_row m rows o.position) (sym c.latch_after-next.ensures) ∙ sym c.in-Some.ensures in
-    let is = c.colour_of.ensures in
+    let is : c.colour_of.result ≡ colour_of c.args.latch c.args.outcome.now = search rules in
     let seen = g.V.Visitor.seen c.visit.new.self (length rows) in
     record {
       answers = outcome_ok m rows s l i t k o leads is tt (g.V.Visitor.rule c.args.visitor.now (length rows)) (sym c.visit.ensures.ruled ∙ c.if-visit.true);
