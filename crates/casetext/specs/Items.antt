@@ -1,4 +1,4 @@
--- What a line without faults says. Its fields count from 0 here: `get_or fs i []` is one, and empty where there is none.
+-- What a line without faults says. Its fields count from 0 here: `slice_index_or fs i []` is one, and empty where there is none.
 use Rattle.std.specs.Prelude.{ℕ, ◌+◌, ◌*◌, Bool, false, cond, List, [], None, ◌==◌, nat_lt, slice_index, slice_index_or}
 use Rattle.std.specs.Option.{unwrap_or}
 use Rattle.std.specs.Str.{bytes_eq}

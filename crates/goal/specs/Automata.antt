@@ -1,5 +1,5 @@
 -- What a goal's form says of its states.
-use Rattle.std.specs.Prelude.{◌≡◌, ℕ, ◌<◌, ◌≤◌, true, ◌&&◌, ltb, length, nat_le, nat_lt, slice_index_or}
+use Rattle.std.specs.Prelude.{◌≡◌, ℕ, ◌<◌, ◌≤◌, true, ◌&&◌, length, nat_le, nat_lt, slice_index_or}
 use Rattle.std.proofs.Common.{sym, subst, ⊎_elim, arith}
 use Rattle.std.specs.List.{list_all}
 use Rattle.std.proofs.lemmas.List.{get_or-take, get_or_past}
@@ -38,7 +38,7 @@ module _ (g : Goal) where
     pub state_stands : state_at s ≡ slice_index_or g.states s no_state
     state_stands = get_or-take g.count g.states s no_state (omega (arith, within, g.counted))
 
-    state_fit : (nat_le (state_at s).priority 5 ≡ true) × (list_all (λ t. ltb t many) (state_at s).next ≡ true)
+    state_fit : (nat_le (state_at s).priority 5 ≡ true) × (list_all (λ t. nat_lt t many) (state_at s).next ≡ true)
     state_fit = and_parts _ _ (pass_at (fit many) (states_of g) s no_state states_fit within)
 
     pub priority_low : priority_in g s ≤ 5
@@ -47,5 +47,5 @@ module _ (g : Goal) where
     -- and so does what follows it, on any label
     pub after_exists : (l : ℕ) → exists g (after g s l) ≡ true
     after_exists l =
-        ⊎_elim (λ h. pass_at (λ t. ltb t many) (state_at s).next l 0 state_fit.1 h)
+        ⊎_elim (λ h. pass_at (λ t. nat_lt t many) (state_at s).next l 0 state_fit.1 h)
         (λ h. subst (λ t. exists g t ≡ true) (sym (get_or_past (state_at s).next l 0 h)) first_exists) (cases_lt l (length (state_at s).next))

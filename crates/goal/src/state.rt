@@ -1,5 +1,5 @@
 //! What a goal is made of.
-ghost use Rattle.std.specs.Prelude.{◌≡◌, ltb, nat_lt};
+ghost use Rattle.std.specs.Prelude.{◌≡◌, nat_lt};
 ghost use Rattle.std.specs.List.{list_all};
 ghost use Rattle.goal.specs.Form.{fit};
 
@@ -36,7 +36,7 @@ pub(crate) fn is_state(state: u8, count: usize) -> bool
 }
 
 fn all_states(states: &[u8], count: usize) -> bool
-    ensures { result ≡ list_all (λ s. ltb s count) states.now }
+    ensures { result ≡ list_all (λ s. nat_lt s count) states.now }
 {
     for state in states {
         if !is_state(*state, count) {

@@ -1,5 +1,5 @@
 -- The program's regions as lists of clocks, the tick clock last.
-use Rattle.std.specs.Prelude.{ℕ, ◌+◌, ◌≤◌, Bool, true, ◌&&◌, ◌||◌, leb, List, [], ◌∷◌, ◌==◌, nat_le, nat_lt}
+use Rattle.std.specs.Prelude.{ℕ, ◌+◌, ◌≤◌, Bool, true, ◌&&◌, ◌||◌, List, [], ◌∷◌, ◌==◌, nat_le, nat_lt}
 use Rattle.clocks.specs.Regions.{Part, part, seen, upto, top}
 use Rattle.regions.specs.declared.region.ClockRegion.{ClockRegion}
 use Rattle.regions.specs.declared.region.Ceilings.{Ceilings}
@@ -40,7 +40,7 @@ is_own r = every within r && upto (seen r) (top r) == top r
 
 -- no ceiling is above 15 units
 abbrev pub ceiled : Ceilings → Bool
-ceiled c = every (λ u. leb u 15) (limits c)
+ceiled c = every (λ u. nat_le u 15) (limits c)
 
 -- the whole parts and classes are those of a region of clocks with these ceilings
 abbrev pub proper : Ceilings → Region → Bool

@@ -1,5 +1,5 @@
 //! Ceilings, one clock's part in a region, and the classes of all.
-ghost use Rattle.std.specs.Prelude.{◌≡◌, ◌+◌, ◌≤◌, eqb, if◌then◌else◌};
+ghost use Rattle.std.specs.Prelude.{◌≡◌, ◌+◌, ◌≤◌, if◌then◌else◌, ◌==◌};
 ghost use Rattle.clocks.specs.Regions.{resting, rising, leave, seen, upto, rank, top};
 ghost use Rattle.regions.specs.Code.{part_of, unceiled, within, ceiled, Small};
 
@@ -54,7 +54,7 @@ impl ClockRegion {
     /// parts.
     pub(crate) fn arrive(self, highest: u8) -> ClockRegion
         requires { self.whole ≤ 16 }
-        ensures { result ≡ (if eqb self.class highest then (record { whole = self.whole + 1; class = 0 }) else self) }
+        ensures { result ≡ (if self.class == highest then (record { whole = self.whole + 1; class = 0 }) else self) }
     {
         if self.class == highest {
             ClockRegion {
