@@ -61,7 +61,7 @@ def turned(text, names):
 
 
 def turned_source(line, names):
-    """A line of Rust: names with a dash are turned only where no string stands, since a string keeps its words."""
+    """A line of Rust. One with a string is left alone, unless it is a ghost line, since a string keeps its words."""
     return line if '"' in line and 'ghost' not in line else turned(line, names)
 
 
