@@ -3,5 +3,6 @@
 
 pub mod accepted;
 pub mod fault;
+pub mod odd;
 pub mod rounds;
 pub mod row;
