@@ -1,20 +1,9 @@
 //! The ranks of all rows in one list.
 ghost use Rattle.std.specs.Prelude.{◌≡◌, ◌+◌, ◌*◌, ◌≤◌, [], ◌++◌, length, vec_len, vec_capacity};
-ghost use Rattle.casetext.specs.Case.{rank_of, column, rank_list};
+ghost use Rattle.casetext.specs.Case.{column, rank_list};
 
-use casetext::ranks::{OddColour, Ranks};
-
-/// The rank for a colour.
-fn rank_of(ranks: Ranks, colour: OddColour) -> u16
-    ensures { result ≡ rank_of colour ranks }
-{
-    match colour {
-        OddColour::One => ranks.one,
-        OddColour::Three => ranks.three,
-        OddColour::Five => ranks.five,
-        OddColour::Seven => ranks.seven,
-    }
-}
+use casetext::ranks::Ranks;
+use table::odd::OddColour;
 
 /// Adds the ranks of one colour for all rows.
 fn push_column(columns: &mut Vec<u16>, ranks: &[Ranks], colour: OddColour)
@@ -24,7 +13,7 @@ fn push_column(columns: &mut Vec<u16>, ranks: &[Ranks], colour: OddColour)
     ensures capacity { vec_capacity columns.new ≡ vec_capacity columns.old }
 {
     for row in ranks {
-        columns.push_reserved(rank_of(*row, colour));
+        columns.push_reserved(*row.get(colour));
     }
 }
 

@@ -14,9 +14,9 @@ use Rattle.game.proofs.Sounds.{sound_start}
 use Rattle.game.specs.Game.{Game, last_whole, sound, suits, resettable, resetting, sound_location, sound_edge, fresh, owns, start}
 use Rattle.casetext.specs.declared.fault.TextFault.{TextFault}
 use Rattle.casetext.specs.declared.fault.TextFault.TheVariants.{NoStart}
-use Rattle.casetext.specs.declared.ranks.OddColour.{OddColour}
-use Rattle.casetext.specs.declared.ranks.OddColour.TheVariants.{One, Three, Five, Seven}
-use Rattle.casetext.specs.declared.ranks.Ranks.{Ranks}
+use Rattle.table.specs.declared.odd.OddColour.{OddColour}
+use Rattle.table.specs.declared.odd.OddColour.TheVariants.{One, Three, Five, Seven}
+use Rattle.table.specs.Odd.{at}
 use Rattle.casetext.specs.declared.line.Form.TheVariants.{Head, Number, Interval, Owner, End, Letters}
 use Rattle.casetext.specs.declared.line.Kind.{Kind}
 use Rattle.casetext.specs.declared.line.Kind.TheVariants.{Clock, Loc, Edge, Row}
@@ -24,8 +24,8 @@ use Rattle.casetext.specs.Text as text
 use Rattle.casetext.specs.Text.{number, numeral, lines, fields}
 use Rattle.casetext.specs.Fields.{dash, letters, all_letters, reset_letter, interval, wrong_interval, wrong_end, max_location, max_edge}
 use Rattle.casetext.specs.Items.{location, edge, ranks, value, everything, bounds, zone, reset_at, max_priority, max_ceiling, resets, clock_at, clock_of, row, max_rank, max_whole, max_class, max_steps}
-use Rattle.casetext.specs.Lines.{Said, some, out_of_place, kind, forms, line_fault, max_clocks, max_locations, max_edges, max_rows}
-use Rattle.casetext.specs.Case.{rank_of, column, rank_list, max_text, Contents, nothing, added, unless_fault, read_fields, read_line, read_lines, ceilings_of, game_of, starts, contents, concluded, read_text}
+use Rattle.casetext.specs.Lines.{Ranks, Said, some, out_of_place, kind, forms, line_fault, max_clocks, max_locations, max_edges, max_rows}
+use Rattle.casetext.specs.Case.{column, rank_list, max_text, Contents, nothing, added, unless_fault, read_fields, read_line, read_lines, ceilings_of, game_of, starts, contents, concluded, read_text}
 use Rattle.casetext.specs.Sound.{Sound, RowInRange, ClockInRange}
 use Rattle.casetext.proofs.Faults.{Passes, Fine, passing, in_place, fine, fine_at, fine_drop, faultless_length}
 use Rattle.casetext.proofs.Layouts.{length_loc, length_edge}
@@ -319,9 +319,9 @@ four_ranks : (rs : List Ranks) → length (rank_list rs) ≡ 4 * length rs
 four_ranks rs = simp (length-append, length-map) (omega arith)
 
 column_in_range : (c : OddColour) (rs : List Ranks) → AllByRecursion RanksInRange rs → AllByRecursion (λ r. r ≤ max_rank) (column c rs)
-column_in_range c rs h = All-map (λ r. r ≤ max_rank) (rank_of c) rs (All-weaker RanksInRange (λ r. rank_of c r ≤ max_rank) (pick c) rs h)
+column_in_range c rs h = All-map (λ r. r ≤ max_rank) (at c) rs (All-weaker RanksInRange (λ r. at c r ≤ max_rank) (pick c) rs h)
   where
-    pick : (c : OddColour) (r : Ranks) → RanksInRange r → rank_of c r ≤ max_rank
+    pick : (c : OddColour) (r : Ranks) → RanksInRange r → at c r ≤ max_rank
     pick One r h = h.0
     pick Three r h = h.1
     pick Five r h = h.2
@@ -329,8 +329,8 @@ column_in_range c rs h = All-map (λ r. r ≤ max_rank) (rank_of c) rs (All-weak
 
 ranks_low : (rs : List Ranks) → AllByRecursion RanksInRange rs → AllByRecursion (λ r. r ≤ max_rank) (rank_list rs)
 ranks_low rs h =
-    let at = λ (c : OddColour). column_in_range c rs h in
-    All-append _ (column One rs ++ column Three rs ++ column Five rs) _ (All-append _ (column One rs ++ column Three rs) _ (All-append _ (column One rs) _ (at One) (at Three)) (at Five)) (at Seven)
+    let low = λ (c : OddColour). column_in_range c rs h in
+    All-append _ (column One rs ++ column Three rs ++ column Five rs) _ (All-append _ (column One rs ++ column Three rs) _ (All-append _ (column One rs) _ (low One) (low Three)) (low Five)) (low Seven)
 
 -- The text
 

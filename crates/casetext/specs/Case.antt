@@ -4,16 +4,16 @@ use Rattle.regions.specs.declared.region.Ceilings.{Ceilings}
 use Rattle.game.specs.declared.parts.TimedPosition.{TimedPosition}
 use Rattle.game.specs.Game.{Game, game, start, keeps}
 use Rattle.table.specs.declared.row.Row as rows
-use Rattle.casetext.specs.declared.ranks.OddColour.{OddColour}
-use Rattle.casetext.specs.declared.ranks.OddColour.TheVariants.{One, Three, Five, Seven}
-use Rattle.casetext.specs.declared.ranks.Ranks.{Ranks}
+use Rattle.table.specs.declared.odd.OddColour.{OddColour}
+use Rattle.table.specs.declared.odd.OddColour.TheVariants.{One, Three, Five, Seven}
+use Rattle.table.specs.Odd.{at}
 use Rattle.casetext.specs.declared.fault.TextFault.{TextFault}
 use Rattle.casetext.specs.declared.fault.TextFault.TheVariants.{TooLong, UnknownKind, NoStart}
 use Rattle.casetext.specs.declared.line.Kind.{Kind}
 use Rattle.casetext.specs.declared.line.Kind.TheVariants.{Clock, Loc, Edge, Row}
 use Rattle.casetext.specs.Text.{lines, fields}
 use Rattle.casetext.specs.Items.{value, max_ceiling, location, edge, row, ranks}
-use Rattle.casetext.specs.Lines.{Said, kind, forms, line_fault}
+use Rattle.casetext.specs.Lines.{Ranks, Said, kind, forms, line_fault}
 
 -- the game, the rows of the table, and their ranks in one list
 pub record Contents : Type 0 where
@@ -64,14 +64,8 @@ abbrev pub game_of : Said → Game
 game_of s = game (ceilings_of s.ceilings) s.locations s.edges
 
 -- the ranks of colour 1 for all rows, then those of 3, 5 and 7
-abbrev pub rank_of : OddColour → Ranks → ℕ
-rank_of One r = r.one
-rank_of Three r = r.three
-rank_of Five r = r.five
-rank_of Seven r = r.seven
-
 abbrev pub column : OddColour → List Ranks → List ℕ
-column c rs = map (rank_of c) rs
+column c rs = map (at c) rs
 
 abbrev pub rank_list : List Ranks → List ℕ
 rank_list rs = column One rs ++ column Three rs ++ column Five rs ++ column Seven rs

@@ -13,7 +13,7 @@ use Rattle.game.specs.declared.parts.Resets.{Resets}
 use Rattle.game.specs.declared.parts.Edge.{Edge}
 use Rattle.game.specs.declared.parts.TimedPosition.{TimedPosition}
 use Rattle.table.specs.declared.row.Row.{Row}
-use Rattle.casetext.specs.declared.ranks.Ranks.{Ranks}
+use Rattle.table.specs.declared.odd.PerColour.{PerColour}
 use Rattle.casetext.specs.Text.{number}
 use Rattle.casetext.specs.Fields.{us, interval, reset_letter, max_location, max_edge}
 
@@ -100,7 +100,7 @@ row n fs =
       choice = record { steps = value max_steps (slice_index_or fs (5 + 2 * n) []); edge = number 0 max_edge (slice_index_or fs (6 + 2 * n) []) };
     }
 
-abbrev pub ranks : ℕ → List (List ℕ) → Ranks
+abbrev pub ranks : ℕ → List (List ℕ) → PerColour ℕ
 ranks n fs =
     record {
       one = value max_rank (slice_index_or fs (7 + 2 * n) []);

@@ -5,7 +5,7 @@ use Rattle.game.specs.declared.parts.Location.{Location}
 use Rattle.game.specs.declared.parts.Edge as edges
 use Rattle.game.specs.declared.parts.TimedPosition.{TimedPosition}
 use Rattle.table.specs.declared.row.Row as rows
-use Rattle.casetext.specs.declared.ranks.Ranks.{Ranks}
+use Rattle.table.specs.declared.odd.PerColour.{PerColour}
 use Rattle.casetext.specs.declared.fault.TextFault.{TextFault}
 use Rattle.casetext.specs.declared.fault.TextFault.TheVariants.{FieldCount}
 use Rattle.casetext.specs.declared.line.Kind.{Kind}
@@ -15,6 +15,10 @@ use Rattle.casetext.specs.declared.line.Form.TheVariants.{Head, Number, Interval
 use Rattle.casetext.specs.Faults.{number_of}
 use Rattle.casetext.specs.Fields.{wrong, max_location}
 use Rattle.casetext.specs.Items.{max_ceiling, max_priority, max_whole, max_class, max_steps, max_rank}
+
+-- a row's rank for each odd colour
+abbrev pub Ranks : Type 0
+Ranks = PerColour ℕ
 
 -- What the lines so far have said: the clocks' ceilings, the locations, the edges, and the rows with their ranks
 pub record Said : Type 0 where

@@ -1,19 +1,5 @@
 //! The ranks of a row.
+use table::odd::PerColour;
 
-/// The colours that have ranks.
-#[derive(Clone, Copy)]
-pub enum OddColour {
-    One,
-    Three,
-    Five,
-    Seven,
-}
-
-/// A row's rank for each of these colours.
-#[derive(Clone, Copy)]
-pub struct Ranks {
-    pub one: u16,
-    pub three: u16,
-    pub five: u16,
-    pub seven: u16,
-}
+/// A row's rank for each odd colour.
+pub type Ranks = PerColour<u16>;

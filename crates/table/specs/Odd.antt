@@ -11,8 +11,8 @@ odd Five = 5
 odd Seven = 7
 
 -- the value of a colour
-abbrev pub at : {T : Type 0} → PerColour T → OddColour → T
-at xs One = xs.one
-at xs Three = xs.three
-at xs Five = xs.five
-at xs Seven = xs.seven
+abbrev pub at : {T : Type 0} → OddColour → PerColour T → T
+at One xs = xs.one
+at Three xs = xs.three
+at Five xs = xs.five
+at Seven xs = xs.seven

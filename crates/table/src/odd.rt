@@ -63,7 +63,7 @@ impl<T> PerColour<T> {
 
     /// The value of a colour.
     pub fn get(&self, colour: OddColour) -> &T
-        ensures { result.now ≡ at self.now colour }
+        ensures { result.now ≡ at colour self.now }
     {
         match colour {
             OddColour::One => &self.one,
