@@ -12,17 +12,9 @@ pub(crate) fn read_text(rt: &HostRuntime) -> io::Result<Vec<u8>> {
 }
 
 /// The line in which the first row of a readable text stands: rows are its last lines.
-pub(crate) fn first_row_line(text: &[u8]) -> u32 {
-    let mut line: u32 = 1;
-    let mut begins = true;
-    for byte in text {
-        if begins && *byte == b'r' {
-            return line;
-        }
-        begins = *byte == b'\n';
-        if begins {
-            line = line.saturating_add(1);
-        }
-    }
-    line
+pub(crate) fn first_row_line(text: &[u8]) -> usize {
+    text.split(|byte| *byte == b'\n')
+        .take_while(|line| !line.starts_with(b"r"))
+        .count()
+        .saturating_add(1)
 }

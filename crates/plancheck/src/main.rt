@@ -6,25 +6,38 @@ mod input;
 mod ranking;
 mod sentences;
 
+use std::str::FromStr;
 use std::{env, io};
 
 /// What is asked about the plan.
+#[derive(Clone, Copy)]
 enum Command {
     Check,
     Rank,
-    Unknown,
 }
 
-fn asked(rt: &HostRuntime) -> io::Result<Command> {
-    let mut args = env::args(rt)?;
-    let _program = args.next();
-    let Some(word) = args.next() else {
-        return Ok(Command::Check);
-    };
-    Ok(match word.as_str() {
-        "check" => Command::Check,
-        "rank" => Command::Rank,
-        _ => Command::Unknown,
+/// A word that names no command.
+#[derive(Clone, Copy)]
+struct UnknownCommand;
+
+impl FromStr for Command {
+    type Err = UnknownCommand;
+
+    fn from_str(word: &str) -> Result<Command, UnknownCommand> {
+        match word {
+            "check" => Ok(Command::Check),
+            "rank" => Ok(Command::Rank),
+            _ => Err(UnknownCommand),
+        }
+    }
+}
+
+/// What the first argument asks, where no argument asks for the check.
+fn asked(rt: &HostRuntime) -> io::Result<Result<Command, UnknownCommand>> {
+    let word = env::args(rt)?.nth(1);
+    Ok(match word {
+        Some(word) => word.as_str().parse(),
+        None => Ok(Command::Check),
     })
 }
 
@@ -39,8 +52,8 @@ fn usage(rt: &HostRuntime) -> io::Result<()> {
 
 fn main(rt: HostRuntime) -> io::Result<()> {
     match asked(&rt)? {
-        Command::Check => checking::check_input(&rt),
-        Command::Rank => ranking::rank_input(&rt),
-        Command::Unknown => usage(&rt),
+        Ok(Command::Check) => checking::check_input(&rt),
+        Ok(Command::Rank) => ranking::rank_input(&rt),
+        Err(UnknownCommand) => usage(&rt),
     }
 }

@@ -10,19 +10,19 @@ use std::io;
 use table::fault::Fault;
 use verdict::verdict::Verdict;
 
-/// The rank of a row for the colour whose stretch is this one of the list; there are n rows.
-fn rank_at(ranks: &[u16], n: usize, stretch: usize, row: usize) -> u16 {
-    let place = stretch.wrapping_mul(n).wrapping_add(row);
-    ranks.get(place).copied().unwrap_or(0)
-}
-
-/// One line for each row, with its ranks for colours 1, 3, 5 and 7.
+/// One line for each of n rows, with its ranks for colours 1, 3, 5 and 7.
 fn write_ranks(rt: &HostRuntime, ranks: &[u16], n: usize) -> io::Result<()> {
-    for row in 0..n {
-        let one = rank_at(ranks, n, 0, row);
-        let three = rank_at(ranks, n, 1, row);
-        let five = rank_at(ranks, n, 2, row);
-        let seven = rank_at(ranks, n, 3, row);
+    let mut stretches = ranks.chunks(n.max(1));
+    let (Some(one), Some(three), Some(five), Some(seven)) = (
+        stretches.next(),
+        stretches.next(),
+        stretches.next(),
+        stretches.next(),
+    ) else {
+        return Ok(());
+    };
+    let colours = one.iter().zip(three).zip(five).zip(seven);
+    for (row, (((one, three), five), seven)) in colours.enumerate() {
         println!(rt; "rank\t{row}\t{one}\t{three}\t{five}\t{seven}")?;
     }
     Ok(())
@@ -30,9 +30,7 @@ fn write_ranks(rt: &HostRuntime, ranks: &[u16], n: usize) -> io::Result<()> {
 
 /// One line for each row and outcome of a losing loop, which stands at the front of the list.
 fn write_loop(rt: &HostRuntime, losing: &[Pair], length: u16) -> io::Result<()> {
-    for pair in losing.iter().take(length as usize) {
-        let row = pair.row;
-        let outcome = pair.outcome;
+    for Pair { row, outcome } in losing.iter().take(usize::from(length)) {
         println!(rt; "loop\t{row}\t{outcome}")?;
     }
     Ok(())
