@@ -1,8 +1,9 @@
 //! The questions that a game answers.
 ghost use Rattle.std.specs.Prelude.{◌≡◌, List, length};
 ghost use Rattle.std.specs.List.{slice_get};
+ghost use Rattle.std.specs.Iterator.{YieldsFirst, item_count};
 ghost use Rattle.arena.specs.declared.moves.Outcome.{Outcome};
-ghost use Rattle.arena.specs.Meaning.{Meaning, Lawful, handed};
+ghost use Rattle.arena.specs.Meaning.{Meaning, Lawful};
 
 use crate::moves::{Move, Outcome};
 
@@ -44,21 +45,62 @@ pub trait Arena {
     fn legal(&self, p: &Self::Position, m: Move) -> bool
         ensures { result ≡ (meaning self.now).legal p.now m };
 
-    /// How many outcomes our move has.
-    fn count(&self, p: &Self::Position, m: Move) -> u16
-        ensures { result ≡ length ((meaning self.now).outcomes p.now m) };
-
-    /// The outcome at a number, from 0.
-    fn outcome(&self, p: &Self::Position, m: Move, i: u16) -> Option<Outcome<Self::Position>>
-        ensures { result ≡ slice_get ((meaning self.now).outcomes p.now m) i };
-
     /// Begins a listing of all outcomes, in order.
     fn list(&self, p: &Self::Position, m: Move) -> Self::Listing
         ensures { rest self.now result ≡ (meaning self.now).outcomes p.now m };
 
     /// The next outcome of a listing.
     fn next(&self, listing: &mut Self::Listing) -> Option<Outcome<Self::Position>>
-        ensures { rest self.now listing.old ≡ handed result (rest self.now listing.new) };
+        ensures { YieldsFirst (rest self.now) listing.old result listing.new };
 
     ghost lawful: { (a : Self) → Lawful (meaning a) };
+
+    /// All outcomes of our move, in order.
+    final fn outcomes(&self, p: &Self::Position, m: Move) -> Outcomes<'_, Self>
+    where
+        Self: Sized,
+        ensures { rest result.arena.now result.listing ≡ (meaning self.now).outcomes p.now m }
+    {
+        Outcomes {
+            arena: self,
+            listing: self.list(p, m),
+        }
+    }
+
+    /// How many outcomes our move has.
+    final fn count(&self, p: &Self::Position, m: Move) -> u16
+    where
+        Self: Sized,
+        ensures { result ≡ length ((meaning self.now).outcomes p.now m) }
+    {
+        self.outcomes(p, m).count() as u16
+    }
+
+    /// The outcome at a number, from 0.
+    final fn outcome(&self, p: &Self::Position, m: Move, i: u16) -> Option<Outcome<Self::Position>>
+    where
+        Self: Sized,
+        ensures { result ≡ slice_get ((meaning self.now).outcomes p.now m) i }
+    {
+        self.outcomes(p, m).nth(i as usize)
+    }
+}
+
+/// The outcomes of a move that a listing has yet to give.
+#[derive(Drop)]
+pub struct Outcomes<'a, A: Arena> {
+    arena: &'a A,
+    listing: A::Listing,
+}
+
+impl<'a, A: Arena> Iterator for Outcomes<'a, A> {
+    type Item = Outcome<A::Position>;
+
+    ghost next_gives = { YieldsFirst (λ s. A.rest s.arena.now s.listing) };
+
+    ghost remaining = { item_count (λ s. A.rest s.arena.now s.listing) };
+
+    fn next(&mut self) -> Option<Outcome<A::Position>> {
+        self.arena.next(&mut self.listing)
+    }
 }

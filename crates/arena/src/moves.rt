@@ -16,7 +16,7 @@ pub struct Move {
 
 /// What a round comes to: the new position, whether time passed a whole unit, and whose move was
 /// carried out.
-#[derive(Clone, Copy)]
+#[derive(Clone, Copy, Drop)]
 pub struct Outcome<P> {
     pub position: P,
     pub ticked: bool,

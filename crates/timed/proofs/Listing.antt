@@ -1,8 +1,8 @@
 -- Outcomes given one by one.
-use Rattle.std.proofs.Common.{◌≡◌, ℕ, zero, suc, ◌+◌, ◌-◌, ◌<◌, ◌≤◌, Bool, true, false, cond, List, [], ◌∷◌, ◌++◌, map, length, is_some, Some, None, Option, sym, refl, ap, ◌∙◌, inl, inr, arith}
+use Rattle.std.proofs.Common.{◌≡◌, ℕ, suc, ◌+◌, ◌-◌, ◌<◌, Bool, true, false, cond, List, [], ◌∷◌, ◌++◌, map, length, is_some, Some, None, Option, IfNone, MatchOption, sym, refl, ap, ◌∙◌, arith}
 use mathlib.Core.List.{map-append}
 use Rattle.std.specs.List.{slice_get}
-use Rattle.std.proofs.lemmas.Bool.{cases_Bool, cond-true}
+use Rattle.std.proofs.lemmas.Bool.{cond-true}
 use Rattle.arena.specs.declared.moves.Side.TheVariants.{Us, Them}
 use Rattle.arena.specs.declared.moves.Move.{Move}
 use Rattle.arena.specs.declared.moves.Outcome.{Outcome}
@@ -10,12 +10,11 @@ use Rattle.arena.specs.Meaning.{handed}
 use Rattle.clocks.specs.Regions.{Part, next}
 use Rattle.game.specs.declared.parts.Edge.{Edge}
 use Rattle.game.specs.declared.parts.TimedPosition.{TimedPosition}
-use Rattle.game.specs.Game.{Game, Place, fits, given, legal, result_of, edge_at, their_edge, ours_at, outcomes, sound}
+use Rattle.game.specs.Game.{Game, Place, fits, given, legal, result_of, edge_at, their_edge, ours_at, outcomes}
 use Rattle.game.specs.Listing.{edges_from, theirs_over, theirs_after}
 use Rattle.game.specs.Timed.{place_of, in_code, timed_meaning}
 use Rattle.game.proofs.Outcomes.{allowed}
 use Rattle.game.proofs.Listings.{listed, by_region, beyond, by_edge}
-use Rattle.game.proofs.Lawfuls.{lawfully}
 use Rattle.timed.specs.Carried.{carried_out}
 use Rattle.timed.proofs.Tables.{some_when, none_when}
 use Rattle.timed.proofs.Answering.{legal_some}
@@ -73,25 +72,15 @@ module _ (g : Game) (l : ℕ) (q : List Part) (i : ℕ) (e : Edge) (at : Some e 
       let t = none_when (fits g Them l q e) (in_code (result_of g Them l (Some e) q)) h in
       (by_edge g l q i).0 n ∙ ap (λ xs. xs ++ edges_from g l q (i + 1)) (edge_there false t)
 
--- an edge is handed out, or they have none left in this region
-pub edge_handed : (r : Option (Outcome TimedPosition)) (xs ys zs : List (Outcome Place)) → is_some r ≡ true → map in_code xs ≡ handed r (map in_code ys)
-    → map in_code (xs ++ zs) ≡ handed r (map in_code (ys ++ zs))
-edge_handed None xs ys zs s e = let z : ◌≡◌ {A = ℕ} 0 1 = cc in let w : ⊥ = omega arith in absurd w
-edge_handed (Some o) xs ys zs s e = map-append in_code xs zs ∙ ap (λ os. os ++ map in_code zs) e ∙ ap (λ os. o ∷ os) (sym (map-append in_code ys zs))
+-- an edge is handed out
+pub edge_handed : (o : Outcome TimedPosition) (xs ys zs : List (Outcome Place)) → map in_code xs ≡ o ∷ map in_code ys → map in_code (xs ++ zs) ≡ o ∷ map in_code (ys ++ zs)
+edge_handed o xs ys zs e = map-append in_code xs zs ∙ ap (λ os. os ++ map in_code zs) e ∙ ap (λ os. o ∷ os) (sym (map-append in_code ys zs))
 
-pub edges_over : (r : Option (Outcome TimedPosition)) (xs ys zs : List (Outcome Place)) → is_some r ≡ false → map in_code xs ≡ handed r (map in_code ys)
-    → map in_code (xs ++ zs) ≡ map in_code zs
-edges_over None xs ys zs s e = map-append in_code xs zs ∙ ap (λ os. os ++ map in_code zs) e
-edges_over (Some o) xs ys zs s e = let z : ◌≡◌ {A = ℕ} 0 1 = cc in let w : ⊥ = omega arith in absurd w
+-- or they have none left in this region
+pub edges_over : (xs zs : List (Outcome Place)) → map in_code xs ≡ [] → map in_code (xs ++ zs) ≡ map in_code zs
+edges_over xs zs e = map-append in_code xs zs ∙ ap (λ os. os ++ map in_code zs) e
 
--- there are at most 65,535
-pub outcomes_bound : (g : Game) → sound g ≡ true → (p : TimedPosition) (m : Move) → length ((timed_meaning g).outcomes p m) ≤ 65535
-outcomes_bound g s p m = let w = lawfully g s in elim (cases_Bool (legal g Us (place_of g p) m.steps m.edge)) [
-  | inl t ↦ (w.counts p m t).1
-  | inr t ↦ let e = ap length (w.idle p m t) in omega arith
-]
-
--- the one that is so many on, once the first is given
-pub nth_after : {A : Type 0} (xs ys : List A) (x : A) (n : ℕ) → xs ≡ x ∷ ys → 0 < n → slice_get xs n ≡ slice_get ys (n - 1)
-nth_after xs ys x zero e z = let w : ⊥ = omega arith in absurd w
-nth_after xs ys x (suc n) e z = let i : n ≡ suc n - 1 = omega arith in ap (λ l. slice_get l (suc n)) e ∙ ap (slice_get ys) i
+-- what came next, and whether anything is left
+pub yields : (r : Option (Outcome TimedPosition)) (xs ys : List (Outcome TimedPosition)) → xs ≡ handed r ys → IfNone r (ys ≡ []) → MatchOption r ((xs ≡ []) × (ys ≡ [])) (λ o. xs ≡ o ∷ ys)
+yields None xs ys e n = (e, n)
+yields (Some o) xs ys e n = e

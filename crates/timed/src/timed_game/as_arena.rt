@@ -95,27 +95,6 @@ impl Arena for TimedGame {
         self.is_legal(Side::Us, *p, m)
     }
 
-    fn count(&self, p: &TimedPosition, m: Move) -> u16 {
-        let mut listing = self.list(p, m);
-        let mut count = 0;
-        while let Some(_) = self.next(&mut listing) {
-            count += 1;
-        }
-        count
-    }
-
-    fn outcome(&self, p: &TimedPosition, m: Move, i: u16) -> Option<Outcome<TimedPosition>> {
-        let mut listing = self.list(p, m);
-        let mut left = i;
-        while let Some(outcome) = self.next(&mut listing) {
-            if left == 0 {
-                return Some(outcome);
-            }
-            left -= 1;
-        }
-        None
-    }
-
     fn list(&self, p: &TimedPosition, m: Move) -> TimedListing {
         self.list_outcomes(*p, m)
     }

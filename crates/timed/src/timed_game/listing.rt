@@ -1,5 +1,6 @@
 //! The outcomes of a move, one by one.
-ghost use Rattle.std.specs.Prelude.{◌≡◌, ◌∷◌, map, Some};
+ghost use Rattle.std.specs.Prelude.{◌≡◌, ◌∷◌, [], map, IfNone, Some};
+ghost use Rattle.std.specs.Iterator.{YieldsFirst};
 ghost use Rattle.arena.specs.Meaning.{handed};
 ghost use Rattle.regions.specs.Standing.{standing};
 ghost use Rattle.game.specs.Game.{Game};
@@ -76,7 +77,7 @@ impl TimedGame {
 
     /// The next outcome of a listing.
     pub(super) fn next_outcome(&self, listing: &mut TimedListing) -> Option<Outcome<TimedPosition>>
-        ensures { rest_of (game_of self.now) listing.old ≡ handed result (rest_of (game_of self.now) listing.new) }
+        ensures { YieldsFirst (rest_of (game_of self.now)) listing.old result listing.new }
     {
         match listing.stage? {
             Stage::Ours(ours, clocks) => {
@@ -84,14 +85,12 @@ impl TimedGame {
                 Some(ours)
             }
             Stage::Wait(clocks) => Some(listing.enter(clocks)),
-            Stage::Edges(clocks, from) => {
-                let mut from = from;
-                let edge = self.next_edge(listing.location, clocks, &mut from);
-                if edge.is_none() {
+            Stage::Edges(clocks, mut from) => {
+                let Some(edge) = self.next_edge(listing.location, clocks, &mut from) else {
                     return listing.go_on(clocks);
-                }
+                };
                 listing.stage = Some(Stage::Edges(clocks, from));
-                edge
+                Some(edge)
             }
         }
     }
@@ -108,7 +107,8 @@ impl TimedListing {
 
     /// Goes on to the region after the one where these clocks stand, if the listing goes so far.
     fn go_on(&mut self, clocks: Clocks) -> Option<Outcome<TimedPosition>>
-        ensures { (g : Game) → map in_code (theirs_after g self.old.location self.old.later (standing clocks)) ≡ handed result (rest_of g self.new) }
+        ensures gives { (g : Game) → map in_code (theirs_after g self.old.location self.old.later (standing clocks)) ≡ handed result (rest_of g self.new) }
+        ensures ends { (g : Game) → IfNone result (rest_of g self.new ≡ []) }
     {
         self.stage = None;
         if self.later == 0 {
