@@ -1,7 +1,8 @@
 -- Runs over a goal are the runs below, with the automaton's states beside them.
-use Rattle.std.proofs.Common.{◌≡◌, ℕ, zero, suc, true, List, [], ◌∷◌, map, Some, None, Option, sym, refl, ap, ◌∙◌, subst, ap₂, ⊎_elim, arith}
+use Rattle.std.proofs.Common.{◌≡◌, ℕ, zero, suc, true, List, [], ◌∷◌, map, Some, None, Option, sym, refl, ap, ◌∙◌, subst, ap₂, ⊎_elim}
 use Rattle.std.specs.List.{slice_get, AllByRecursion}
 use Rattle.std.specs.Option.{option_map, option_flatten}
+use Rattle.std.proofs.lemmas.Option.{none-some}
 use Rattle.std.proofs.lemmas.Bool.{cond-true, cases_Bool}
 use Rattle.arena.specs.Meaning.{Meaning, Lawful}
 use Rattle.arena.specs.declared.moves.Outcome.{Outcome}
@@ -13,19 +14,16 @@ use Rattle.goal.specs.Runs.{Pick, run_from, run, along, lowered, word, RunsOver}
 use Rattle.goal.specs.Automata.{first_exists, after_exists}
 use Rattle.goal.specs.Laws.{by_number, goal_lawful}
 
-none_some : {X : Type 0} {x : X} → ◌≡◌ {A = Option X} None (Some x) → ⊥
-none_some e = let z : ◌≡◌ {A = ℕ} 0 1 = cc in omega arith
-
 mapped_some : {X Y : Type 0} (f : X → Y) (o : Option X) (y : Y) → option_map f o ≡ Some y → (x : X) × (o ≡ Some x) × (f x ≡ y)
-mapped_some f None y e = absurd (none_some e)
+mapped_some f None y e = absurd (none-some _ e)
 mapped_some f (Some x) y e = (x, refl, cc)
 
 flattened_some : {X Y : Type 0} (f : X → Option Y) (o : Option X) (y : Y) → option_flatten (option_map f o) ≡ Some y → (x : X) × (o ≡ Some x) × (f x ≡ Some y)
-flattened_some f None y e = absurd (none_some e)
+flattened_some f None y e = absurd (none-some _ e)
 flattened_some f (Some x) y e = (x, refl, e)
 
 all_nth : {X : Type 0} (F : X → Type 0) (xs : List X) (i : ℕ) (x : X) → AllByRecursion F xs → slice_get xs i ≡ Some x → F x
-all_nth F [] i x h e = absurd (none_some e)
+all_nth F [] i x h e = absurd (none-some _ e)
 all_nth F (y ∷ ys) zero x h e = let s : y ≡ x = cc in subst F s h.0
 all_nth F (y ∷ ys) (suc i) x h e = all_nth F ys i x h.1 e
 
@@ -41,7 +39,7 @@ module _ {P : Type 0} (m : Meaning P) (ok : Lawful m) where
   own_outcome : (p : P) (k : Pick) (o : Outcome P) → slice_get (m.outcomes p k.choice) k.number ≡ Some o → Own o.position
   own_outcome p k o e =
       ⊎_elim (λ h. all_nth (λ x. Own x.position) (m.outcomes p k.choice) k.number o (ok.leads p k.choice h) e)
-      (λ h. absurd (none_some (sym (ap (λ os. slice_get os k.number) (ok.idle p k.choice h)) ∙ e))) (cases_Bool (m.legal p k.choice))
+      (λ h. absurd (none-some _ (sym (ap (λ os. slice_get os k.number) (ok.idle p k.choice h)) ∙ e))) (cases_Bool (m.legal p k.choice))
 
   own_from : (ks : List Pick) (p : P) (os : List (Outcome P)) → run_from m p ks ≡ Some os → AllByRecursion Own (map (λ o. o.position) os)
   own_from [] p os e = let s : [] ≡ os = cc in subst (λ xs. AllByRecursion Own (map (λ o. o.position) xs)) s tt

@@ -1,5 +1,7 @@
 -- A goal as an automaton: its states, and how it reads a word of labels.
-use Rattle.std.specs.Prelude.{ℕ, Bool, List, [], ◌∷◌, length, take, nat_lt, slice_index, slice_index_or}
+use Rattle.std.specs.Prelude.{ℕ, Bool, List, [], ◌∷◌, length, take, nat_lt, slice_index, Option}
+use Rattle.std.specs.List.{slice_get}
+use Rattle.std.specs.Option.{option_map_or}
 use Rattle.goal.specs.declared.state.GoalState.{GoalState}
 use Rattle.goal.specs.declared.goal.Goal.{Goal}
 
@@ -7,21 +9,21 @@ use Rattle.goal.specs.declared.goal.Goal.{Goal}
 abbrev pub states_of : Goal → List GoalState
 states_of g = take g.count g.states
 
--- what stands for a state that does not exist
-abbrev pub no_state : GoalState
-no_state = record { priority = 0; next = [] }
+-- the state with a number
+abbrev pub state_of : Goal → ℕ → Option GoalState
+state_of g s = slice_get (states_of g) s
 
 -- whether a state exists
 abbrev pub exists : Goal → ℕ → Bool
 exists g s = nat_lt s (length (states_of g))
 
--- the priority of a state
+-- the priority of a state, and 0 where there is none
 abbrev pub priority_in : Goal → ℕ → ℕ
-priority_in g s = (slice_index_or (states_of g) s no_state).priority
+priority_in g s = option_map_or (λ x. x.priority) (state_of g s) 0
 
--- the state after a state on a label
+-- the state after a state on a label, and 0 where there is none
 abbrev pub after : Goal → ℕ → ℕ → ℕ
-after g s l = slice_index (slice_index_or (states_of g) s no_state).next l
+after g s l = option_map_or (λ x. slice_index x.next l) (state_of g s) 0
 
 -- the states that the automaton comes to as it reads a word, from a state that it stands in
 abbrev pub read_from : Goal → ℕ → List ℕ → List ℕ

@@ -1,10 +1,11 @@
 -- A goal over a lawful arena is lawful.
-use Rattle.std.specs.Prelude.{◌≡◌, ℕ, zero, suc, ◌≤◌, Bool, true, false, cond, ◌&&◌, List, [], ◌∷◌, map, length, Option, ◌==◌, refl}
+use Rattle.std.specs.Prelude.{◌≡◌, ℕ, ◌≤◌, Bool, true, false, cond, ◌&&◌, List, [], map, length, Option, ◌==◌, refl}
 use Rattle.std.proofs.Common.{sym, ap, subst, ◌∙◌, ⊎_elim, arith}
 use Rattle.std.specs.List.{slice_get, AllByRecursion}
 use Rattle.std.specs.Option.{option_map}
 use Rattle.std.proofs.ByRecursion.{All-map, All-weaker}
 use Rattle.std.proofs.lemmas.List.{length-map}
+use Rattle.std.proofs.lemmas.Option.{slice_get-map}
 use Rattle.std.proofs.lemmas.Bool.{and_parts, and_from, and_cases, both_ways, cases_Bool, cond-true, cond-false, cond_both, eqb-true, eq-eqb}
 use Rattle.arena.specs.Meaning.{Meaning, Lawful}
 use Rattle.arena.specs.declared.moves.Move.{Move}
@@ -14,11 +15,6 @@ use Rattle.goal.specs.declared.product.GoalPosition.{GoalPosition}
 use Rattle.goal.specs.Automaton.{exists, priority_in}
 use Rattle.goal.specs.Product.{raised, owned, goal_meaning}
 use Rattle.goal.specs.Automata.{first_exists, after_exists, priority_low}
-
-nth_map : {X Y : Type 0} (f : X → Y) (xs : List X) (i : ℕ) → slice_get (map f xs) i ≡ option_map f (slice_get xs i)
-nth_map f [] i = refl
-nth_map f (x ∷ xs) zero = refl
-nth_map f (x ∷ xs) (suc i) = nth_map f xs i
 
 -- a second test makes no difference where it fails only if both answers are the same
 by_first : {X : Type 0} (a b : Bool) (x y : X) → (b ≡ false → x ≡ y) → cond (a && b) x y ≡ cond a x y
@@ -42,11 +38,11 @@ module _ {P : Type 0} (m : Meaning P) (ok : Lawful m) (g : Goal) where
     opened : (goal_meaning m g).outcomes p v ≡ lifted p v
     opened = by_state p v ∙ cond-true (exists g p.state) (lifted p v) [] e
 
-    pub as_many : length ((goal_meaning m g).outcomes p v) ≡ length (m.outcomes p.below v)
+    as_many : length ((goal_meaning m g).outcomes p v) ≡ length (m.outcomes p.below v)
     as_many = ap length opened ∙ length-map (m.outcomes p.below v) (raised m g p.state)
 
     pub by_number : (i : ℕ) (o : Option (Outcome P)) → slice_get (m.outcomes p.below v) i ≡ o → option_map (raised m g p.state) o ≡ slice_get ((goal_meaning m g).outcomes p v) i
-    by_number i o e = rw (← e, opened) (sym (nth_map (raised m g p.state) (m.outcomes p.below v) i))
+    by_number i o e = rw (← e, opened) (sym (slice_get-map (raised m g p.state) (m.outcomes p.below v) i))
 
   pub known_state : (p : GoalPosition P) → owned m g p ≡ true → exists g p.state ≡ true
   known_state p e = (and_parts (exists g p.state) (m.owns p.below) e).0

@@ -4,4 +4,3 @@ pub mod Product
 pub mod Runs
 pub mod Laws
 pub mod Automata
-pub mod Passes

@@ -7,7 +7,7 @@ use crate::state::{GoalState, MOST_STATES};
 mod automaton;
 
 /// A deterministic parity automaton that reads the labels of positions. Its states are the first
-/// `count` of the array.
+/// `count` of the array, which makes a goal `Copy`.
 #[derive(Clone, Copy)]
 pub struct Goal {
     count: u8,

@@ -1,6 +1,6 @@
 //! The arena that a goal makes over an arena: positions below, each with the state of the goal
 //! there.
-ghost use Rattle.std.specs.Prelude.{◌≡◌, true, [], map, if◌then◌else◌};
+ghost use Rattle.std.specs.Prelude.{◌≡◌, [], map, if◌then◌else◌};
 ghost use Rattle.goal.specs.Automaton.{exists};
 ghost use Rattle.goal.specs.Product.{reached, raised, goal_meaning};
 ghost use Rattle.goal.specs.Runs.{RunsOver};
@@ -47,7 +47,6 @@ impl<A: Arena> GoalArena<A> {
 
     /// A new position below, whose label moves the goal on from a state.
     fn reach(&self, state: u8, below: A::Position) -> GoalPosition<A::Position>
-        requires { exists self.now.goal state ≡ true }
         ensures { result ≡ reached (A.Arena.meaning self.now.below) self.now.goal state below }
     {
         let label = self.below.label(&below);
@@ -59,7 +58,6 @@ impl<A: Arena> GoalArena<A> {
 
     /// An outcome below, with the state that it leads to.
     fn raise(&self, state: u8, outcome: Outcome<A::Position>) -> Outcome<GoalPosition<A::Position>>
-        requires { exists self.now.goal state ≡ true }
         ensures { result ≡ raised (A.Arena.meaning self.now.below) self.now.goal state outcome }
     {
         let Outcome {

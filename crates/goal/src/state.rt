@@ -1,5 +1,5 @@
 //! What a goal is made of.
-ghost use Rattle.std.specs.Prelude.{◌≡◌, nat_lt};
+ghost use Rattle.std.specs.Prelude.{◌≡◌, nat_lt, slice_index};
 ghost use Rattle.std.specs.List.{list_all};
 ghost use Rattle.goal.specs.Form.{fit};
 
@@ -26,22 +26,17 @@ impl GoalState {
     {
         self.priority <= TOP_PRIORITY && all_states(&self.next, count)
     }
-}
 
-/// Whether this is a state of a goal with so many.
-pub(crate) fn is_state(state: u8, count: usize) -> bool
-    ensures { result ≡ nat_lt state count }
-{
-    (state as usize) < count
+    /// The state that follows on a label: state 0 on one that there is not.
+    pub(crate) fn after(&self, label: u8) -> u8
+        ensures { result ≡ slice_index self.now.next label }
+    {
+        self.next.get(label as usize).copied().unwrap_or(0)
+    }
 }
 
 fn all_states(states: &[u8], count: usize) -> bool
     ensures { result ≡ list_all (λ s. nat_lt s count) states.now }
 {
-    for state in states {
-        if !is_state(*state, count) {
-            return false;
-        }
-    }
-    true
+    states.iter().all(|state| (*state as usize) < count)
 }
