@@ -14,10 +14,6 @@ pub(crate) fn find_row<A: Arena>(
 ) -> Option<usize>
     ensures { result ≡ first_row (A.Arena.meaning arena.now) rows.now position.now latch }
 {
-    for (s, row) in rows.iter().enumerate() {
-        if row.latch == latch && arena.same(&row.position, position) {
-            return Some(s);
-        }
-    }
-    None
+    rows.iter()
+        .position(|row| row.stands_at(arena, position, latch))
 }
