@@ -5,7 +5,7 @@ ghost use Rattle.casetext.specs.Lines.{kind};
 
 use crate::interval::{fits_clock, read_interval};
 use crate::limits::{MAX_EDGE, MAX_LOCATION};
-use crate::text::{is_word, read_number};
+use crate::text::read_number;
 use casetext::fault::TextFault;
 use casetext::line::{Form, Kind};
 
@@ -13,16 +13,12 @@ use casetext::line::{Form, Kind};
 pub(crate) fn read_kind(field: &[u8]) -> Option<Kind>
     ensures { result ≡ kind field.now }
 {
-    if is_word(field, b"clock") {
-        Some(Kind::Clock)
-    } else if is_word(field, b"loc") {
-        Some(Kind::Loc)
-    } else if is_word(field, b"edge") {
-        Some(Kind::Edge)
-    } else if is_word(field, b"row") {
-        Some(Kind::Row)
-    } else {
-        None
+    match field {
+        b"clock" => Some(Kind::Clock),
+        b"loc" => Some(Kind::Loc),
+        b"edge" => Some(Kind::Edge),
+        b"row" => Some(Kind::Row),
+        _ => None,
     }
 }
 
@@ -30,12 +26,7 @@ pub(crate) fn read_kind(field: &[u8]) -> Option<Kind>
 fn are_letters(field: &[u8]) -> bool
     ensures { result ≡ all_letters field.now }
 {
-    for b in field {
-        if *b != b'r' && *b != b'k' {
-            return false;
-        }
-    }
-    true
+    field.iter().all(|b| *b == b'r' || *b == b'k')
 }
 
 /// One letter for each clock, or `-` without clocks.
@@ -43,7 +34,7 @@ fn suits_clocks(clocks: usize, field: &[u8]) -> bool
     ensures { result ≡ letters clocks field.now }
 {
     if clocks == 0 {
-        is_word(field, b"-")
+        matches!(field, b"-")
     } else {
         field.len() == clocks && are_letters(field)
     }
@@ -53,7 +44,7 @@ fn suits_clocks(clocks: usize, field: &[u8]) -> bool
 fn unless_fine(fine: bool, fault: TextFault) -> Option<TextFault>
     ensures { result ≡ unless fine fault }
 {
-    if fine { None } else { Some(fault) }
+    (!fine).then_some(fault)
 }
 
 /// What is wrong with a field, which must have this form.
@@ -74,7 +65,7 @@ pub(crate) fn field_fault(line: u32, field: u32, form: Form, text: &[u8]) -> Opt
                 TextFault::BadInterval { line, field },
             ),
         },
-        Form::Owner => unless_fine(is_word(text, b"us") || is_word(text, b"them"), out_of_form),
+        Form::Owner => unless_fine(matches!(text, b"us" | b"them"), out_of_form),
         Form::End { locations } => match read_number(text, 0, MAX_LOCATION) {
             None => Some(out_of_form),
             Some(n) => unless_fine(
@@ -84,7 +75,7 @@ pub(crate) fn field_fault(line: u32, field: u32, form: Form, text: &[u8]) -> Opt
         },
         Form::Letters { clocks } => unless_fine(suits_clocks(clocks, text), out_of_form),
         Form::Choice => unless_fine(
-            is_word(text, b"-") || read_number(text, 0, MAX_EDGE).is_some(),
+            matches!(text, b"-") || read_number(text, 0, MAX_EDGE).is_some(),
             out_of_form,
         ),
     }

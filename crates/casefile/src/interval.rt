@@ -4,7 +4,7 @@ ghost use Rattle.game.specs.Intervals.{inhabited, bounded};
 ghost use Rattle.casetext.specs.Fields.{bracket, bound, upper, interval};
 
 use crate::limits::MAX_BOUND;
-use crate::text::{cut, is_word, read_number};
+use crate::text::{cut, read_number};
 use game::bounds::{Bound, Bounds};
 use soundness::bounds::{is_bounded, is_inhabited};
 
@@ -33,23 +33,23 @@ fn read_bound(open: bool, field: &[u8]) -> Option<Bound>
 fn read_upper(open: bool, field: &[u8]) -> Option<Option<Bound>>
     ensures { result ≡ upper «open» field.now }
 {
-    if is_word(field, b"-") {
-        return if open { Some(None) } else { None };
+    if matches!(field, b"-") {
+        open.then_some(None)
+    } else {
+        read_bound(open, field).map(Some)
     }
-    Some(Some(read_bound(open, field)?))
 }
 
 /// An interval as `[1,3)` or `(0,-)`.
 pub(crate) fn read_interval(field: &[u8]) -> Option<Bounds>
     ensures { result ≡ interval field.now }
 {
-    let n = field.len();
-    if n < 2 {
+    let [first, inner @ .., last] = field else {
         return None;
-    }
-    let low_open = is_round(field[0], b'[', b'(')?;
-    let high_open = is_round(field[n - 1], b']', b')')?;
-    let (low, rest) = cut(&field[1..n - 1], b',');
+    };
+    let low_open = is_round(*first, b'[', b'(')?;
+    let high_open = is_round(*last, b']', b')')?;
+    let (low, rest) = cut(inner, b',');
     let low = read_bound(low_open, low)?;
     let high = read_upper(high_open, rest?)?;
     Some(Bounds { low, high })

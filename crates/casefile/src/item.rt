@@ -8,7 +8,7 @@ use crate::interval::read_interval;
 use crate::limits::{
     MAX_CLASS, MAX_EDGE, MAX_LOCATION, MAX_PRIORITY, MAX_RANK, MAX_STEPS, MAX_WHOLE,
 };
-use crate::text::{byte_at, is_word, read_number, value_of};
+use crate::text::{byte_at, read_number, small_value_of, value_of};
 use arena::moves::{Move, Side};
 use casetext::ranks::Ranks;
 use game::bounds::{Bound, Bounds, Zone};
@@ -49,7 +49,7 @@ pub(crate) fn location_of(line: &[u8]) -> Location
     ensures { result ≡ location (fields line.now) }
 {
     Location {
-        priority: value_of(nth_field(line, 1), MAX_PRIORITY) as u8,
+        priority: small_value_of(nth_field(line, 1), MAX_PRIORITY),
         invariant: zone_of(line, 2),
     }
 }
@@ -58,10 +58,9 @@ pub(crate) fn location_of(line: &[u8]) -> Location
 fn side_of(field: &[u8]) -> Side
     ensures { result ≡ side field.now }
 {
-    if is_word(field, b"us") {
-        Side::Us
-    } else {
-        Side::Them
+    match field {
+        b"us" => Side::Us,
+        _ => Side::Them,
     }
 }
 
@@ -89,8 +88,8 @@ pub(crate) fn edge_of(line: &[u8]) -> Edge
 {
     Edge {
         side: side_of(nth_field(line, 1)),
-        from: value_of(nth_field(line, 2), MAX_LOCATION) as u8,
-        to: value_of(nth_field(line, 3), MAX_LOCATION) as u8,
+        from: small_value_of(nth_field(line, 2), MAX_LOCATION),
+        to: small_value_of(nth_field(line, 3), MAX_LOCATION),
         resets: resets_of(nth_field(line, 4)),
         guard: zone_of(line, 5),
     }
@@ -102,8 +101,8 @@ fn clock_at(line: &[u8], i: usize) -> ClockRegion
     ensures { result ≡ clock_at i (fields line.now) }
 {
     ClockRegion {
-        whole: value_of(nth_field(line, i), MAX_WHOLE) as u8,
-        class: value_of(nth_field(line, i + 1), MAX_CLASS) as u8,
+        whole: small_value_of(nth_field(line, i), MAX_WHOLE),
+        class: small_value_of(nth_field(line, i + 1), MAX_CLASS),
     }
 }
 
@@ -139,12 +138,12 @@ pub(crate) fn row_of(line: &[u8], clocks: usize) -> Row<TimedPosition>
 {
     Row {
         position: TimedPosition {
-            location: value_of(nth_field(line, 1), MAX_LOCATION) as u8,
+            location: small_value_of(nth_field(line, 1), MAX_LOCATION),
             region: region_of(line, clocks),
         },
-        latch: value_of(nth_field(line, 2), MAX_PRIORITY) as u8,
+        latch: small_value_of(nth_field(line, 2), MAX_PRIORITY),
         choice: Move {
-            steps: value_of(nth_field(line, 5 + 2 * clocks), MAX_STEPS) as u8,
+            steps: small_value_of(nth_field(line, 5 + 2 * clocks), MAX_STEPS),
             edge: read_number(nth_field(line, 6 + 2 * clocks), 0, MAX_EDGE),
         },
     }

@@ -11,7 +11,7 @@ use crate::form::{field_fault, read_kind};
 use crate::item::{edge_of, location_of, ranks_of, row_of};
 use crate::layout::{fields_needed, form_at};
 use crate::limits::MAX_CEILING;
-use crate::text::{cut, value_of};
+use crate::text::{cut, small_value_of};
 use casetext::fault::TextFault;
 use casetext::line::Kind;
 
@@ -55,8 +55,9 @@ fn add_line(draft: &mut Draft, kind: Kind, line: &[u8])
 {
     match kind {
         Kind::Clock => {
-            let ceiling = value_of(nth_field(line, 1), MAX_CEILING) as u8;
-            draft.ceilings.push_reserved(ceiling);
+            draft
+                .ceilings
+                .push_reserved(small_value_of(nth_field(line, 1), MAX_CEILING));
         }
         Kind::Loc => draft.locations.push_reserved(location_of(line)),
         Kind::Edge => draft.edges.push_reserved(edge_of(line)),

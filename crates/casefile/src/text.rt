@@ -1,7 +1,6 @@
 //! Parts a text, and reads the numbers in it.
-ghost use Rattle.std.specs.Prelude.{◌≡◌, ◌≤◌, slice_index};
+ghost use Rattle.std.specs.Prelude.{◌≡◌, ◌<◌, ◌≤◌, slice_index};
 ghost use Rattle.std.specs.Option.{option_map};
-ghost use Rattle.std.specs.Str.{bytes_eq};
 ghost use Rattle.casetext.specs.Text.{number, before, behind};
 ghost use Rattle.casetext.specs.Items.{value};
 
@@ -10,7 +9,7 @@ ghost use Rattle.casetext.specs.Items.{value};
 pub(crate) fn read_number(field: &[u8], low: u16, high: u16) -> Option<u16>
     ensures { result ≡ number low high field.now }
 {
-    if field.is_empty() || (field.len() > 1 && field[0] == b'0') {
+    if let [] | [b'0', _, ..] = field {
         return None;
     }
     let mut n: u32 = 0;
@@ -23,11 +22,7 @@ pub(crate) fn read_number(field: &[u8], low: u16, high: u16) -> Option<u16>
             return None;
         }
     }
-    if n < u32::from(low) {
-        None
-    } else {
-        Some(n as u16)
-    }
+    (u32::from(low) <= n).then_some(n as u16)
 }
 
 /// The number up to a limit that the field is, or 0.
@@ -38,18 +33,19 @@ pub(crate) fn value_of(field: &[u8], limit: u16) -> u16
     read_number(field, 0, limit).unwrap_or(0)
 }
 
+/// The same for numbers below 256.
+pub(crate) fn small_value_of(field: &[u8], limit: u16) -> u8
+    requires { limit < 256 }
+    ensures { result ≡ value limit field.now }
+{
+    value_of(field, limit) as u8
+}
+
 /// The i-th byte from 0, or 0 where there is none.
 pub(crate) fn byte_at(bytes: &[u8], i: usize) -> u8
     ensures { result ≡ slice_index bytes.now i }
 {
-    if i < bytes.len() { bytes[i] } else { 0 }
-}
-
-/// Whether the field is this word, byte by byte.
-pub(crate) fn is_word(field: &[u8], word: &[u8]) -> bool
-    ensures { result ≡ bytes_eq field.now word.now }
-{
-    field == word
+    bytes.get(i).copied().unwrap_or(0)
 }
 
 /// What comes before the first `sep`, and what comes behind it.
@@ -57,10 +53,8 @@ pub(crate) fn cut(text: &[u8], sep: u8) -> (&[u8], Option<&[u8]>)
     ensures front { result.0.now ≡ before sep text.now }
     ensures rest { option_map (λ x. x.now) result.1 ≡ behind sep text.now }
 {
-    for (i, b) in text.iter().enumerate() {
-        if *b == sep {
-            return (&text[0..i], Some(&text[i + 1..]));
-        }
+    match text.iter().position(|b| *b == sep) {
+        Some(i) => (&text[..i], Some(&text[i + 1..])),
+        None => (text, None),
     }
-    (text, None)
 }

@@ -11,7 +11,7 @@ use Rattle.casetext.proofs.Splits.{line_more}
 -- the first line, and then the others
 pub next_line : (n : ℕ) (s : Said) (bs line : List ℕ) (o : Option (List ℕ)) (r : Result Said TextFault) → 0 < length bs → line ≡ before line_feed bs → o ≡ behind line_feed bs → r ≡ read_line (n + 1) s line → read_lines n (Ok s) (lines bs) ≡ read_lines (n + 1) r (lines (unwrap_or o []))
 next_line n s bs line o r h front rest told =
-    ap (read_lines n (Ok s)) (line_more line_feed bs o h (sym rest))
+    ap (read_lines n (Ok s)) (line_more bs o h (sym rest))
     ∙ ap (λ l. read_lines (n + 1) (read_line (n + 1) s l) (lines (unwrap_or o []))) (sym front)
     ∙ ap (λ t. read_lines (n + 1) t (lines (unwrap_or o []))) (sym told)
 

@@ -1,6 +1,6 @@
 -- What a field must be, and what is wrong with one that is not.
 use Rattle.std.specs.Prelude.{ℕ, ◌-◌, Bool, true, false, cond, not, ◌&&◌, ◌||◌, List, [], ◌∷◌, length, is_some, Some, None, codes, Option, ◌==◌, nat_lt, slice_index}
-use Rattle.std.specs.List.{between}
+use Rattle.std.specs.List.{between, list_all}
 use Rattle.std.specs.Option.{option_map}
 use Rattle.std.specs.Str.{bytes_eq}
 use Rattle.game.specs.declared.bounds.Bound.{Bound}
@@ -89,8 +89,7 @@ abbrev pub keep_letter : ℕ
 keep_letter = 107
 
 abbrev pub all_letters : List ℕ → Bool
-all_letters [] = true
-all_letters (b ∷ bs) = (b == reset_letter || b == keep_letter) && all_letters bs
+all_letters = list_all (λ b. b == reset_letter || b == keep_letter)
 
 -- one for each of n clocks, or `-` without clocks
 abbrev pub letters : ℕ → List ℕ → Bool

@@ -1,6 +1,7 @@
 -- Pieces of a text, and the numbers written in it. A text is a list of bytes.
 use Rattle.std.specs.Prelude.{ℕ, ◌+◌, ◌-◌, ◌*◌, cond, ◌&&◌, List, [], ◌∷◌, Some, None, Option, ◌==◌, nat_le}
 use Rattle.std.specs.Char.{is_ascii_digit}
+use Rattle.std.specs.List.{onto_first, slice_split}
 
 abbrev pub tab : ℕ
 tab = 9
@@ -8,23 +9,14 @@ tab = 9
 abbrev pub line_feed : ℕ
 line_feed = 10
 
--- one more byte in front of the first piece
-abbrev pub onto : ℕ → List (List ℕ) → List (List ℕ)
-onto b [] = (b ∷ []) ∷ []
-onto b (p ∷ ps) = (b ∷ p) ∷ ps
-
--- a text parted at each `sep`, where `end` is what the empty text gives
-abbrev pub parted : ℕ → List (List ℕ) → List ℕ → List (List ℕ)
-parted sep end [] = end
-parted sep end (b ∷ bs) = cond (b == sep) ([] ∷ parted sep end bs) (onto b (parted sep end bs))
-
 -- lines end in a line feed, which the last may lack
 abbrev pub lines : List ℕ → List (List ℕ)
-lines = parted line_feed []
+lines [] = []
+lines (b ∷ bs) = cond (b == line_feed) ([] ∷ lines bs) (onto_first b (lines bs))
 
 -- fields are parted by tabs; every tab parts, and an empty line is one empty field
 abbrev pub fields : List ℕ → List (List ℕ)
-fields = parted tab ([] ∷ [])
+fields = slice_split (λ b. b == tab)
 
 -- the bytes before the first `sep`, and those behind it
 abbrev pub before : ℕ → List ℕ → List ℕ

@@ -1,20 +1,16 @@
-use Rattle.std.proofs.Common.{◌+◌, ◌-◌, [], get_or, sym, refl, ap, ◌∙◌, arith}
-use native.Mathlib.Nat.{sub-zero}
-use Rattle.std.specs.Option.{option_map}
+use Rattle.std.proofs.Common.{[], eqb, unwrap_or, refl, ap, ◌∙◌, rules}
+use Rattle.std.proofs.lemmas.Iterator.Consumers.{nth_from_yields_List}
+use Rattle.std.proofs.lemmas.Iterator.Splits.{YieldsList-from_slice_split}
+use Rattle.std.proofs.lemmas.Option.{unwrap_or-slice_get}
+use borrow.Author.Tests.{tests}
 use Rattle.casetext.specs.Text.{fields}
-use Rattle.casetext.proofs.Splits.{field_more, field_here}
+use Rattle.casetext.proofs.Reading.{now_or}
 use Rattle.casefile.proofs.fields.nth_field.Goals as goal
 
-pub loop-init : goal.loop-init
-loop-init c = ap (λ k. get_or (fields c.args.line.now) k []) (sym (sub-zero c.args.i))
-
-pub loop-preserved : goal.loop-preserved
-loop-preserved c =
-    c.loop.invariant ∙ field_more 9 c.loop.rest.now (c.args.i - c.loop.counter) (c.args.i - (c.loop.counter + 1)) _ (omega arith) (sym c.cut.ensures.rest ∙ ap (option_map (λ x. x.now)) c.in-Some.is)
-
-pub returns-in_default : goal.returns-in_default
-returns-in_default c =
-    sym (c.loop.invariant ∙ field_more 9 c.loop.rest.now (c.args.i - c.loop.counter) (c.args.i - (c.loop.counter + 1)) _ (omega arith) (sym c.cut.ensures.rest ∙ ap (option_map (λ x. x.now)) c.in_default.is))
-
 pub returns : goal.returns
-returns c = c.cut-2.ensures.front ∙ sym (c.loop.invariant ∙ field_here 9 c.loop.rest.now (c.args.i - c.loop.counter) _ (omega arith) refl)
+returns c =
+    ap (λ x. x.now) c.unwrap_or.ensures ∙ now_or c.nth.result _ refl
+    ∙ ap (λ o. unwrap_or o [])
+    (nth_from_yields_List c.nth.result _ c.args.i c.nth.ensures.ran
+    (YieldsList-from_slice_split _ (λ b. eqb b 9) c.args.line.now c.split.ensures.rest c.split.ensures.done c.split.ensures.closure (λ x b q k. search (rules, tests))))
+    ∙ unwrap_or-slice_get (fields c.args.line.now) c.args.i []

@@ -1,19 +1,26 @@
-use Rattle.std.proofs.Common.{arith}
-use native.Mathlib.Nat.{sub-zero}
+use Rattle.std.proofs.Common.{◌≡◌, ◌+◌, eqb, Some, None, sym, ◌∙◌, ap, rules}
+use Rattle.std.specs.List.{position}
 use Rattle.std.proofs.lemmas.List.{take_rest}
-use Rattle.casetext.proofs.Splits.{clear_none, clear_more, clear_found, clear_all}
+use Rattle.std.proofs.lemmas.Iterator.{YieldsList-from_slice}
+use Rattle.std.proofs.lemmas.Iterator.Search.{position_from_yields_List}
+use borrow.Author.Tests.{tests}
+use Rattle.casetext.proofs.Splits.{cut_some, cut_none}
 use Rattle.casefile.proofs.text.cut.Goals as goal
 
-pub loop-i-init : goal.loop-i-init
-loop-i-init c = clear_none _ _
+found : (c : goal.After-result-1) → position (λ b. eqb b c.args.sep) c.args.text.now ≡ Some c.in-Some.i
+found c = sym (position_from_yields_List (λ b. eqb b c.args.sep) _ _ c.position.result c.position.ensures.ran (YieldsList-from_slice c.args.text.now cc) (λ x b q k. search (rules, tests))) ∙ c.in-Some.is
 
-pub loop-i-preserved : goal.loop-i-preserved
-loop-i-preserved c = clear_more _ _ _ c.loop-i.invariant c.loop-i-test.true c.if-b-sep.false
+lacking : (c : goal.In-None) → position (λ b. eqb b c.args.sep) c.args.text.now ≡ None
+lacking c = sym (position_from_yields_List (λ b. eqb b c.args.sep) _ _ c.position.result c.position.ensures.ran (YieldsList-from_slice c.args.text.now cc) (λ x b q k. search (rules, tests))) ∙ c.in-None.is
 
-pub returns-then-b-sep : goal.returns-then-b-sep
-returns-then-b-sep c =
-    let f = clear_found _ _ _ c.loop-i.invariant c.loop-i-test.true c.if-b-sep.true in
-    record { front = simp sub-zero f.0; rest = simp take_rest f.1 }
+pub returns-in-Some-clause-front : goal.returns-in-Some-clause-front
+returns-in-Some-clause-front c = sym (cut_some c.args.sep c.args.text.now c.in-Some.i (found c)).0
 
-pub returns : goal.returns
-returns c = let f = clear_all _ _ _ c.loop-i.invariant (omega arith) in record { front = f.0; rest = f.1 }
+pub returns-in-Some-clause-rest : goal.returns-in-Some-clause-rest
+returns-in-Some-clause-rest c = ap Some (take_rest c.args.text.now (c.in-Some.i + 1)) ∙ sym (cut_some c.args.sep c.args.text.now c.in-Some.i (found c)).1
+
+pub returns-in-None-clause-front : goal.returns-in-None-clause-front
+returns-in-None-clause-front c = sym (cut_none c.args.sep c.args.text.now (lacking c)).0
+
+pub returns-in-None-clause-rest : goal.returns-in-None-clause-rest
+returns-in-None-clause-rest c = sym (cut_none c.args.sep c.args.text.now (lacking c)).1

@@ -19,8 +19,5 @@ loop-b-preserved c =
     let e = next_digit c.args.field.now c.loop-b.b-index c.loop-b.n c.loop-b-test.true (sym c.if-not-is_ascii_digit.ensures.value) in
     (omega arith, rw c.from.ensures (c.loop-b.invariant.1 ∙ ap (within _ _) e))
 
-pub returns-then-n-from-2 : goal.returns-then-n-from-2
-returns-then-n-from-2 c = let e = at_end c.args.field.now c.loop-b.b-index c.loop-b.n (omega arith) in sym (c.loop-b.invariant.1 ∙ ap (within _ _) e ∙ grind (arith, nat_tests))
-
-pub returns-else-n-from-2 : goal.returns-else-n-from-2
-returns-else-n-from-2 c = let e = at_end c.args.field.now c.loop-b.b-index c.loop-b.n (omega arith) in sym (c.loop-b.invariant.1 ∙ ap (within _ _) e ∙ grind (arith, nat_tests))
+pub returns : goal.returns
+returns c = let e = at_end c.args.field.now c.loop-b.b-index c.loop-b.n (omega arith) in c.then_some.ensures ∙ sym (c.loop-b.invariant.1 ∙ ap (within _ _) e ∙ grind (arith, nat_tests, c.from-2.ensures, c.loop-b.invariant.0))
