@@ -14,6 +14,7 @@ use crate::limits::MAX_CEILING;
 use crate::text::{cut, small_value_of};
 use casetext::fault::TextFault;
 use casetext::line::Kind;
+use refusals::refusal::Refuses;
 
 /// The fault with the smaller number, and of equal ones the first.
 fn lesser_fault(first: Option<TextFault>, second: Option<TextFault>) -> Option<TextFault>

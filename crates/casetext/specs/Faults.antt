@@ -1,6 +1,7 @@
 -- How a fault of a text is reported: its number, the line, and the field. Where the text as a whole is at fault, the
 -- last two are 0.
 use Rattle.std.specs.Prelude.{ℕ}
+use Rattle.refusals.specs.declared.refusal.Refusal.{Refusal}
 use Rattle.casetext.specs.declared.fault.TextFault.{TextFault}
 use Rattle.casetext.specs.declared.fault.TextFault.TheVariants.{TooLong, UnknownKind, FieldCount, OutOfForm, OutOfPlace, BadInterval, UnknownEnd, NoStart}
 
@@ -33,3 +34,6 @@ detail_of TooLong = 0
 detail_of (BadInterval line field) = field
 detail_of (UnknownEnd line field) = field
 detail_of NoStart = 0
+
+abbrev pub refusal_of : TextFault → Refusal
+refusal_of f = record { number = number_of f; place = place_of f; detail = detail_of f }

@@ -1,6 +1,7 @@
 //! What can be wrong with a text.
-ghost use Rattle.std.specs.Prelude.{◌≡◌};
-ghost use Rattle.casetext.specs.Faults.{number_of, place_of, detail_of};
+ghost use Rattle.casetext.specs.Faults.{refusal_of};
+
+use refusals::refusal::Refuses;
 
 /// Why a text is refused. Lines and fields count from 1.
 #[derive(Clone, Copy)]
@@ -23,11 +24,10 @@ pub enum TextFault {
     NoStart,
 }
 
-impl TextFault {
-    /// The number by which the fault is reported.
-    pub fn number(self) -> u8
-        ensures { result ≡ number_of self }
-    {
+impl Refuses for TextFault {
+    ghost refusal = { refusal_of };
+
+    fn number(self) -> u8 {
         match self {
             TextFault::UnknownKind { .. } => 1,
             TextFault::FieldCount { .. } => 2,
@@ -40,9 +40,7 @@ impl TextFault {
     }
 
     /// The line, or 0 where the text as a whole is at fault.
-    pub fn place(self) -> u32
-        ensures { result ≡ place_of self }
-    {
+    fn place(self) -> u32 {
         match self {
             TextFault::TooLong | TextFault::NoStart => 0,
             TextFault::UnknownKind { line }
@@ -55,9 +53,7 @@ impl TextFault {
     }
 
     /// The field, or 0 where the text as a whole is at fault.
-    pub fn detail(self) -> u32
-        ensures { result ≡ detail_of self }
-    {
+    fn detail(self) -> u32 {
         match self {
             TextFault::TooLong | TextFault::NoStart => 0,
             TextFault::UnknownKind { .. } | TextFault::OutOfPlace { .. } => 1,

@@ -6,6 +6,7 @@ use casefile::case::Case;
 use casefile::reader::read_into;
 use casefile::room::Room;
 use game::parts::TimedPosition;
+use refusals::refusal::Refuses;
 use runs::state::Tally;
 use std::{fs, io};
 use walk::walk::Walk;

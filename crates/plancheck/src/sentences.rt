@@ -1,5 +1,6 @@
 //! Refusals in plain words.
 use casetext::fault::TextFault;
+use refusals::refusal::Refuses;
 use std::fmt;
 use table::fault::Fault;
 

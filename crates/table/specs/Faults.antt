@@ -1,5 +1,6 @@
 -- What a refusal names: its number, its place and its detail.
 use Rattle.std.specs.Prelude.{ℕ}
+use Rattle.refusals.specs.declared.refusal.Refusal.{Refusal}
 use Rattle.table.specs.declared.fault.Fault.{Fault}
 use Rattle.table.specs.declared.fault.Fault.TheVariants.{TooManyRows, NotOwn, Repeated, NoStartRow, IllegalMove, NoRow, RankRule, LosingLoop, WrongLengths, NoRowHere, IllegalHere, NoOutcome, TooManyRounds}
 
@@ -49,3 +50,6 @@ detail_of NoRowHere = 0
 detail_of IllegalHere = 0
 detail_of NoOutcome = 0
 detail_of TooManyRounds = 0
+
+abbrev pub refusal_of : Fault → Refusal
+refusal_of f = record { number = number_of f; place = place_of f; detail = detail_of f }

@@ -1,6 +1,7 @@
 //! Why a table or a step is declined.
-ghost use Rattle.std.specs.Prelude.{◌≡◌};
-ghost use Rattle.table.specs.Faults.{number_of, place_of, detail_of};
+ghost use Rattle.table.specs.Faults.{refusal_of};
+
+use refusals::refusal::Refuses;
 
 /// A refusal, with what it names: a row and an outcome, each numbered from 0, or a loop.
 #[derive(Clone, Copy, PartialEq, Eq, Debug)]
@@ -33,11 +34,10 @@ pub enum Fault {
     TooManyRounds,
 }
 
-impl Fault {
-    /// The number that stands for the refusal in a verdict.
-    pub fn number(self) -> u8
-        ensures { result ≡ number_of self }
-    {
+impl Refuses for Fault {
+    ghost refusal = { refusal_of };
+
+    fn number(self) -> u8 {
         match self {
             Fault::TooManyRows => 4,
             Fault::NotOwn { .. } => 8,
@@ -53,10 +53,8 @@ impl Fault {
         }
     }
 
-    /// The row that the refusal names, or the length of its loop, else 0.
-    pub fn place(self) -> u32
-        ensures { result ≡ place_of self }
-    {
+    /// The row, or the length of the loop.
+    fn place(self) -> u32 {
         match self {
             Fault::NotOwn { row }
             | Fault::Repeated { row }
@@ -74,10 +72,8 @@ impl Fault {
         }
     }
 
-    /// The outcome that the refusal names, or the colour of its loop, else 0.
-    pub fn detail(self) -> u32
-        ensures { result ≡ detail_of self }
-    {
+    /// The outcome, or the colour of the loop.
+    fn detail(self) -> u32 {
         match self {
             Fault::NoRow { outcome, .. } | Fault::RankRule { outcome, .. } => outcome as u32,
             Fault::LosingLoop { colour, .. } => colour as u32,

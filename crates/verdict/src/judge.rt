@@ -12,10 +12,7 @@ pub fn judge(room: Room, text: &[u8]) -> Verdict
     ensures { result ≡ judged text.now }
 {
     match read_into(room, text) {
-        Ok(case) => match check(&case.game, case.rows.as_slice(), case.ranks.as_slice()) {
-            Ok(answer) => Verdict::Accepted(answer),
-            Err(fault) => Verdict::Refused(fault),
-        },
+        Ok(case) => check(&case.game, case.rows.as_slice(), case.ranks.as_slice()).into(),
         Err(fault) => Verdict::Unreadable(fault),
     }
 }

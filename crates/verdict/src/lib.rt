@@ -3,5 +3,6 @@
 
 pub mod judge;
 pub mod lines;
-pub mod refusal;
 pub mod verdict;
+
+pub use refusals::refusal;

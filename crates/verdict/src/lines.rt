@@ -2,8 +2,8 @@
 ghost use Rattle.std.specs.Prelude.{Some};
 ghost use Rattle.verdict.specs.Lines.{line_of};
 
-use crate::refusal::Refusal;
 use crate::verdict::Verdict;
+use refusals::refusal::Refusal;
 use std::fmt;
 
 // The fields of its line, without a line feed.
@@ -13,18 +13,10 @@ impl fmt::Display for Verdict {
     fn fmt<W: fmt::Write>(&self, f: &mut fmt::Formatter<W>) -> fmt::Result {
         match self {
             Verdict::Accepted(answer) => {
-                let rows = answer.rows;
-                let outcomes = answer.outcomes;
-                write!(f, "accepted\t{rows}\t{outcomes}")
+                write!(f, "accepted\t{}\t{}", answer.rows, answer.outcomes)
             }
-            Verdict::Unreadable(fault) => {
-                let refusal = Refusal::from(*fault);
-                write!(f, "{refusal}")
-            }
-            Verdict::Refused(fault) => {
-                let refusal = Refusal::from(*fault);
-                write!(f, "{refusal}")
-            }
+            Verdict::Unreadable(fault) => write!(f, "{}", Refusal::from(*fault)),
+            Verdict::Refused(fault) => write!(f, "{}", Refusal::from(*fault)),
         }
     }
 }

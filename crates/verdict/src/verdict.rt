@@ -1,4 +1,7 @@
 //! What is said of a case.
+ghost use Rattle.std.specs.Prelude.{◌≡◌};
+ghost use Rattle.verdict.specs.Judged.{said};
+
 use casetext::fault::TextFault;
 use table::accepted::Accepted;
 use table::fault::Fault;
@@ -9,4 +12,16 @@ pub enum Verdict {
     Accepted(Accepted),
     Unreadable(TextFault),
     Refused(Fault),
+}
+
+// What the check answers, as a verdict.
+impl From<Result<Accepted, Fault>> for Verdict {
+    ghost from_gives = { λ answer v. v ≡ said answer };
+
+    fn from(answer: Result<Accepted, Fault>) -> Verdict {
+        match answer {
+            Ok(accepted) => Verdict::Accepted(accepted),
+            Err(fault) => Verdict::Refused(fault),
+        }
+    }
 }
