@@ -6,7 +6,7 @@ use Rattle.loops.specs.Graph.{Graph, Closed, Losing, due, Keeps}
 use Rattle.loops.specs.Lifting.{Lifted, after, way, OnRing}
 use Rattle.loops.proofs.Firsts.{First, some_or_none}
 use Rattle.loops.proofs.Lifts.{lifted_none, lifted_more}
-use Rattle.loops.proofs.Rings.{most_steps, on_ring, ring_loses}
+use Rattle.loops.proofs.Rings.{Picks, lifted_picks, most_steps, on_ring, ring_top, ring_loses}
 
 -- f with another value at s
 put : (ℕ → ℕ) → ℕ → ℕ → ℕ → ℕ
@@ -49,12 +49,15 @@ module _ (g : Graph) (p : ℕ) (closed : Closed g) (odd : p % 2 ≡ 1) where
   Fits rank = Keeps g p rank × ((s : ℕ) → s < g.size → rank s < g.size)
 
   module _ (rank pick : ℕ → ℕ) (up : Lifted g p rank pick) where
+    picks : Picks g rank pick
+    picks = lifted_picks g p rank pick up
+
     ring_loop : (s : ℕ) → OnRing g rank pick g.size s → Loop
     ring_loop s ring =
         ⊎_elim
         (λ (f : First (λ k. after g pick (suc k) s ≡ s) ring.length). (
           way g pick (suc f.number) s,
-          ring_loses g p rank pick closed up g.size f.number s odd ring f.holds (λ j. sooner f.number f.before j),
+          ring_loses g rank pick closed picks p g.size f.number s odd ring f.holds (λ j. sooner f.number f.before j) (ring_top g p rank pick closed up g.size f.number s ring f.holds),
         ))
         (λ (none : (k : ℕ) → k < ring.length → after g pick (suc k) s ≡ s → ⊥).
         absurd (none (ring.length - 1) (omega (arith, ring.some)) (ap (λ k. after g pick k s) (let q : suc (ring.length - 1) ≡ ring.length = omega (arith, ring.some) in q) ∙ ring.back)))
@@ -71,7 +74,7 @@ module _ (g : Graph) (p : ℕ) (closed : Closed g) (odd : p % 2 ≡ 1) where
         (λ (f : First (λ k. rank (after g pick k s) ≡ 0) g.size).
         absurd (omega (arith, f.below, f.holds, most_steps g p rank pick closed up f.number s b (λ j c. positive j (f.before j c)))))
         (λ (none : (k : ℕ) → k < g.size → rank (after g pick k s) ≡ 0 → ⊥).
-        ring_loop (after g pick g.size s) (on_ring g p rank pick closed up s b (λ j c. positive j (none j c))))
+        ring_loop (after g pick g.size s) (on_ring g rank pick closed picks s b (λ j c. positive j (none j c))))
         (some_or_none (λ k. rank (after g pick k s) ≡ 0) (λ k. cases_eq (rank (after g pick k s)) 0) g.size)
       where
         positive : (k : ℕ) → (rank (after g pick k s) ≡ 0 → ⊥) → 0 < rank (after g pick k s)

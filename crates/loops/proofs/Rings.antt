@@ -102,27 +102,22 @@ module _ (g : Graph) (pick : ℕ → ℕ) where
       ∙ sym (after_add j (k - j) k s (omega arith))
       ∙ back))
 
+-- each row with a rank above 0 has a picked outcome
+abbrev pub Picks : Graph → (ℕ → ℕ) → (ℕ → ℕ) → Type 0
+Picks g rank pick = (s : ℕ) → s < g.size → 0 < rank s → pick s < g.count s
+
+pub lifted_picks : (g : Graph) (p : ℕ) (rank pick : ℕ → ℕ) → Lifted g p rank pick → Picks g rank pick
+lifted_picks g p rank pick up s b h = (up.stands s b h).there
+
 -- picked outcomes lead on from row to row
 
-module _ (g : Graph) (p : ℕ) (rank pick : ℕ → ℕ) (closed : Closed g) (up : Lifted g p rank pick) where
+module _ (g : Graph) (rank pick : ℕ → ℕ) (closed : Closed g) (picks : Picks g rank pick) where
   goes_on : (s : ℕ) → s < g.size → 0 < rank s → g.to s (pick s) < g.size
-  goes_on s b h = closed s (pick s) b (up.stands s b h).there
+  goes_on s b h = closed s (pick s) b (picks s b h)
 
   within : (k s : ℕ) → s < g.size → ((j : ℕ) → j < k → 0 < rank (after g pick j s)) → after g pick k s < g.size
   within zero s b h = b
   within (suc k) s b h = within k (g.to s (pick s)) (goes_on s b (h 0 (omega arith))) (λ j c. h (suc j) (omega arith))
-
-  -- each step costs at most one
-  pub most_steps : (k s : ℕ) → s < g.size → ((j : ℕ) → j < k → 0 < rank (after g pick j s)) → rank s ≤ rank (after g pick k s) + k
-  most_steps zero s b h = omega arith
-  most_steps (suc k) s b h =
-      let x = up.stands s b (h 0 (omega arith)) in
-      let y = most_steps k (g.to s (pick s)) (goes_on s b (h 0 (omega arith))) (λ j c. h (suc j) (omega arith)) in
-      let z : cond {A = ℕ} (eqb (g.colour s (pick s)) p) 1 0 ≤ 1 = one (g.colour s (pick s)) in
-      omega (arith, x.most)
-    where
-      one : (c : ℕ) → cond {A = ℕ} (eqb c p) 1 0 ≤ 1
-      one c = ⊎_elim (λ (e : c ≡ p). rw (eq-eqb c p e) (omega arith)) (λ (e : c ≡ p → ⊥). rw (ne_eqb c p e) (omega arith)) (cases_eq c p)
 
   -- after as many steps as there are rows, with all ranks above 0 so far, one stands on a ring
   module _ (s : ℕ) (b : s < g.size) (h : (j : ℕ) → j < g.size → 0 < rank (after g pick j s)) where
@@ -169,6 +164,46 @@ module _ (g : Graph) (p : ℕ) (rank pick : ℕ → ℕ) (closed : Closed g) (up
               ∙ ap (λ k. after g pick k s) (let q : n + d - (t.1 - t.0) ≡ n = omega (arith, t.2) in q);
         }
 
+  leads_way : (k s : ℕ) → s < g.size → ((j : ℕ) → j < k → 0 < rank (after g pick j s)) → Leads g s (way g pick k s) (after g pick k s)
+  leads_way zero s b h = refl
+  leads_way (suc k) s b h = (
+    refl,
+    b,
+    picks s b (h 0 (omega arith)),
+    leads_way k (g.to s (pick s)) (goes_on s b (h 0 (omega arith))) (λ j c. h (suc j) (omega arith)),
+  )
+
+  -- a ring is a losing loop of its largest colour, if that is odd
+  pub ring_loses : (p n k s : ℕ) → p % 2 ≡ 1 → OnRing g rank pick n s → after g pick (suc k) s ≡ s →
+      ((j : ℕ) → 0 < j → j < suc k → after g pick j s ≡ s → ⊥) → largest g (way g pick (suc k) s) ≡ p → Losing g p (way g pick (suc k) s)
+  ring_loses p n k s odd ring back first top =
+      let F : ℕ → Type 0 = λ t. Leads g s (way g pick (suc k) s) t in
+      record {
+        first = s;
+        round = subst F back (leads_way (suc k) s (ring.within 0) (λ j _. ring.lifted j));
+        simple = first_back g pick (suc k) s back first;
+        top = top;
+        odd = odd;
+      }
+
+-- the ranks stand by them
+
+module _ (g : Graph) (p : ℕ) (rank pick : ℕ → ℕ) (closed : Closed g) (up : Lifted g p rank pick) where
+  abbrev onward : (s : ℕ) → s < g.size → 0 < rank s → g.to s (pick s) < g.size
+  onward = goes_on g rank pick closed (lifted_picks g p rank pick up)
+
+  -- each step costs at most one
+  pub most_steps : (k s : ℕ) → s < g.size → ((j : ℕ) → j < k → 0 < rank (after g pick j s)) → rank s ≤ rank (after g pick k s) + k
+  most_steps zero s b h = omega arith
+  most_steps (suc k) s b h =
+      let x = up.stands s b (h 0 (omega arith)) in
+      let y = most_steps k (g.to s (pick s)) (onward s b (h 0 (omega arith))) (λ j c. h (suc j) (omega arith)) in
+      let z : cond {A = ℕ} (eqb (g.colour s (pick s)) p) 1 0 ≤ 1 = one (g.colour s (pick s)) in
+      omega (arith, x.most)
+    where
+      one : (c : ℕ) → cond {A = ℕ} (eqb c p) 1 0 ≤ 1
+      one c = ⊎_elim (λ (e : c ≡ p). rw (eq-eqb c p e) (omega arith)) (λ (e : c ≡ p → ⊥). rw (ne_eqb c p e) (omega arith)) (cases_eq c p)
+
   -- along other colours than p the rank does not fall, and if it stays, the moment lies before
   Later : ℕ → ℕ → Type 0
   Later s t = (rank s ≤ rank t) × (rank s ≡ rank t → up.since t < up.since s)
@@ -187,7 +222,7 @@ module _ (g : Graph) (p : ℕ) (rank pick : ℕ → ℕ) (closed : Closed g) (up
   small_way : (k s : ℕ) → s < g.size → ((j : ℕ) → j < k → 0 < rank (after g pick j s)) → largest g (way g pick k s) ≤ p
   small_way zero s b h = omega arith
   small_way (suc k) s b h =
-      omega (arith, (up.stands s b (h 0 (omega arith))).small, small_way k (g.to s (pick s)) (goes_on s b (h 0 (omega arith))) (λ j c. h (suc j) (omega arith)))
+      omega (arith, (up.stands s b (h 0 (omega arith))).small, small_way k (g.to s (pick s)) (onward s b (h 0 (omega arith))) (λ j c. h (suc j) (omega arith)))
 
   -- a way of some steps has the largest colour p, or its end is later
   top_or_later : (k s : ℕ) → s < g.size → ((j : ℕ) → j < suc k → 0 < rank (after g pick j s)) →
@@ -206,33 +241,14 @@ module _ (g : Graph) (p : ℕ) (rank pick : ℕ → ℕ) (closed : Closed g) (up
       ⊎_elim
       (λ (e : largest g (way g pick (suc k) t) ≡ p). inl (omega arith))
       (λ (y : Later t (after g pick (suc k) t)). inr (later_trans s t _ (step_later s b (h 0 (omega arith)) ne) y))
-      (top_or_later k t (goes_on s b (h 0 (omega arith))) (λ j c. h (suc j) (omega arith))))
+      (top_or_later k t (onward s b (h 0 (omega arith))) (λ j c. h (suc j) (omega arith))))
       (cases_eq (g.colour s (pick s)) p)
 
-  leads_way : (k s : ℕ) → s < g.size → ((j : ℕ) → j < k → 0 < rank (after g pick j s)) → Leads g s (way g pick k s) (after g pick k s)
-  leads_way zero s b h = refl
-  leads_way (suc k) s b h = (
-    refl,
-    b,
-    (up.stands s b (h 0 (omega arith))).there,
-    leads_way k (g.to s (pick s)) (goes_on s b (h 0 (omega arith))) (λ j c. h (suc j) (omega arith)),
-  )
-
-  -- a ring is a losing loop
-  pub ring_loses : (n k s : ℕ) → p % 2 ≡ 1 → OnRing g rank pick n s → after g pick (suc k) s ≡ s →
-      ((j : ℕ) → 0 < j → j < suc k → after g pick j s ≡ s → ⊥) → Losing g p (way g pick (suc k) s)
+  -- so the largest colour of a ring is p
+  pub ring_top : (n k s : ℕ) → OnRing g rank pick n s → after g pick (suc k) s ≡ s → largest g (way g pick (suc k) s) ≡ p
   unfolding Later
-  ring_loses n k s odd ring back first =
-      let h : (j : ℕ) → j < suc k → 0 < rank (after g pick j s) = λ j _. ring.lifted j in
-      let F : ℕ → Type 0 = λ t. Leads g s (way g pick (suc k) s) t in
-      record {
-        first = s;
-        round = subst F back (leads_way (suc k) s (ring.within 0) h);
-        simple = first_back g pick (suc k) s back first;
-        top =
-            ⊎_elim
-            (λ (e : largest g (way g pick (suc k) s) ≡ p). e)
-            (λ (l : Later s (after g pick (suc k) s)). absurd (omega (arith, l.1 (sym (ap rank back)), ap up.since back)))
-            (top_or_later k s (ring.within 0) h);
-        odd = odd;
-      }
+  ring_top n k s ring back =
+      ⊎_elim
+      (λ (e : largest g (way g pick (suc k) s) ≡ p). e)
+      (λ (l : Later s (after g pick (suc k) s)). absurd (omega (arith, l.1 (sym (ap rank back)), ap up.since back)))
+      (top_or_later k s (ring.within 0) (λ j _. ring.lifted j))

@@ -1,5 +1,6 @@
 pub mod Raises
 pub mod Sweeps
+pub mod Orders
 pub mod Noting
 pub mod Telling
 pub mod Writing

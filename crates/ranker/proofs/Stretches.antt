@@ -1,11 +1,22 @@
 -- The stretches of a rank list, drafted one after the other.
-use Rattle.std.proofs.Common.{◌≡◌, ℕ, ◌+◌, ◌-◌, ◌*◌, ◌/◌, ◌<◌, ◌≤◌, List, ◌++◌, length, get_or, take, drop, sym, ap, ◌∙◌, subst, mul-le-mul_right, arith, below_more}
+use Rattle.std.proofs.Common.{◌≡◌, ℕ, zero, suc, ◌+◌, ◌-◌, ◌*◌, ◌/◌, ◌<◌, ◌≤◌, List, [], ◌∷◌, ◌++◌, length, get_or, take, drop, sym, ap, ◌∙◌, subst, mul-le-mul_right, arith, below_more}
 use borrow.Rule.Slice.PartMut.{put_mid, post_of}
 use Rattle.std.proofs.lemmas.List.{length-take, length-drop, get_or-take, get_or_append_left, get_or-append_right}
+use Rattle.table.specs.declared.odd.OddColour.{OddColour}
+use Rattle.table.specs.declared.odd.OddColour.TheVariants.{One, Three, Five, Seven}
+use Rattle.table.specs.Odd.{odd}
 use Rattle.loops.specs.Graph.{Graph, Closed, Losing, NoLoop}
 use Rattle.loops.proofs.Ranks.{none_losing}
 use Rattle.loops.proofs.Tables.{keeps_same}
-use Rattle.ranker.specs.Lifts.{Smallest}
+use Rattle.ranker.specs.Lifts.{rank_in, Smallest}
+
+-- the odd colours in turn
+pub odd_at : (q : ℕ) (d : OddColour) → q < 4 → odd (get_or (One ∷ Three ∷ Five ∷ Seven ∷ []) q d) ≡ 2 * q + 1
+odd_at zero d b = omega arith
+odd_at (suc zero) d b = omega arith
+odd_at (suc (suc zero)) d b = omega arith
+odd_at (suc (suc (suc zero))) d b = omega arith
+odd_at (suc (suc (suc (suc q)))) d b = absurd (omega arith)
 
 -- a stretch ends within the list
 pub stretch_end : (q n : ℕ) → q < 4 → (q + 1) * n ≤ 4 * n
@@ -34,6 +45,9 @@ smallest_same g p rank rank' closed same x =
       below = λ s b. omega (arith, same s b, x.below s b);
       least = λ other k s b. omega (arith, same s b, x.least other k s b);
     }
+
+pub smallest_along : {g : Graph} {p p' : ℕ} {ranks ranks' : List ℕ} → Smallest g p (rank_in ranks) → p ≡ p' → ranks ≡ ranks' → Smallest g p' (rank_in ranks')
+smallest_along {g} {p} {p'} {ranks} {ranks'} x e f = rw (← e, ← f) x
 
 -- one more stretch
 pub drafted_more : (g : Graph) (q n k : ℕ) (xs ys : List ℕ) → Closed g → g.size ≡ n → q * n ≤ length xs → length ys ≡ n →

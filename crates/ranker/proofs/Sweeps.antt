@@ -1,44 +1,46 @@
 -- How far a sweep has come.
-use Rattle.std.proofs.Common.{◌≡◌, ℕ, ◌+◌, ◌-◌, ◌<◌, ◌≤◌, Bool, true, false, List, length, Some, None, Option, sym, refl, ap, ◌∙◌, subst, arith, below_more}
-use Rattle.ranker.specs.declared.arc.Arc.{Arc}
+use Rattle.std.proofs.Common.{◌≡◌, ℕ, ◌<◌, List, [], ◌∷◌, ◌++◌, length, Some, None, Option, sym, ◌∙◌, subst, ⊎_elim}
+use Rattle.std.specs.List.{ContainsAt}
+use Rattle.std.proofs.ByRecursion.{has_push_cases}
+use Rattle.plan.specs.declared.passage.Passage.{Passage}
 use Rattle.ranker.specs.Arcs.{arc_at}
-use Rattle.ranker.specs.Lifts.{Met, Below, slack, place_at, Swept}
+use Rattle.table.specs.Odd.{odd}
+use Rattle.ranker.specs.declared.lifting.Lifting.{Lifting}
+use Rattle.ranker.specs.Task.{SameTask}
+use Rattle.ranker.specs.Lifts.{Met, Below, Moved, AllMet, AllSmallest}
+use Rattle.ranker.proofs.Raises.{met_smallest}
 
--- every place comes at some step
-place_step : (forward : Bool) (n k : ℕ) → k < n → (step : ℕ) × (step < n) × (place_at forward n step ≡ k)
-place_step true n k b = (k, b, refl)
-place_step false n k b = (n - 1 - k, omega arith, omega arith)
+-- the arcs at these places are met
+abbrev pub MetAt : List Passage → ℕ → List ℕ → List ℕ → Type 0
+MetAt arcs p ks ranks = (k : ℕ) → ContainsAt ks k → Met p ranks (arc_at arcs k)
 
-module _ (arcs : List Arc) (p : ℕ) (forward : Bool) (was : List ℕ) where
-  abbrev arc_of : ℕ → Arc
-  arc_of step = arc_at arcs (place_at forward (length arcs) step)
+module _ (arcs : List Passage) (p : ℕ) (was : List ℕ) where
+  -- one more, which is met
+  pub moved_met : (ks ranks ranks' : List ℕ) (k : ℕ) (last : Option ℕ) → ranks' ≡ ranks → Met p ranks' (arc_at arcs k) →
+      Moved (MetAt arcs p ks) was ranks last → Moved (MetAt arcs p (ks ++ k ∷ [])) was ranks' last
+  moved_met ks ranks ranks' k None same met x =
+      let F : List ℕ → Type 0 = MetAt arcs p ks in
+      let old : MetAt arcs p ks ranks' = subst F (sym same) x.1 in
+      let M : ℕ → Type 0 = λ j. Met p ranks' (arc_at arcs j) in
+      (same ∙ x.0, λ j h. ⊎_elim (old j) (λ (e : k ≡ j). subst M e met) (has_push_cases ks k j h))
+  moved_met ks ranks ranks' k (Some s) same met x = rw same x
 
-  -- the first steps are taken
-  abbrev pub SweptTo : List ℕ → ℕ → Option ℕ → Type 0
-  SweptTo ranks step None = (ranks ≡ was) × ((i : ℕ) → i < step → Met p ranks (arc_of i))
-  SweptTo ranks step (Some s) = (s < length ranks) × (slack ranks < slack was)
+  -- all of them
+  pub moved_all : (ks ranks : List ℕ) (last : Option ℕ) → ((k : ℕ) → k < length arcs → ContainsAt ks k) → Moved (MetAt arcs p ks) was ranks last → Moved (AllMet arcs p) was ranks last
+  moved_all ks ranks None whole x = (x.0, λ k b. x.1 k (whole k b))
+  moved_all ks ranks (Some s) whole x = x
 
-  -- one more, along an arc that is met
-  pub to_met : (ranks ranks' : List ℕ) (step k : ℕ) (last : Option ℕ) → k ≡ place_at forward (length arcs) step → ranks' ≡ ranks → Met p ranks (arc_at arcs k) →
-      SweptTo ranks step last → SweptTo ranks' (step + 1) last
-  to_met ranks ranks' step k None e same met x =
-      let F : ℕ → Type 0 = λ j. Met p ranks (arc_at arcs j) in
-      let G : List ℕ → Type 0 = λ r. (i : ℕ) → i < step + 1 → Met p r (arc_of i) in
-      (same ∙ x.0, subst G (sym same) (below_more (λ i. Met p ranks (arc_of i)) step x.1 (subst F e met)))
-  to_met ranks ranks' step k (Some s) e same met x = rw same x
+-- the task stays the same
+pub same_trans : {a b c : Lifting} → SameTask a b → SameTask b c → SameTask a c
+same_trans x y = record { arcs = y.arcs ∙ x.arcs; colour = y.colour ∙ x.colour; list = y.list ∙ x.list; rows = y.rows ∙ x.rows }
 
-  -- or along one that lifted its row
-  pub to_lift : (ranks ranks' : List ℕ) (step s : ℕ) (last : Option ℕ) → SweptTo ranks step last → slack ranks' < slack ranks → s < length ranks' →
-      (s < length ranks') × (slack ranks' < slack was)
-  to_lift ranks ranks' step s None x less b = (b, omega (arith, ap slack x.0))
-  to_lift ranks ranks' step s (Some t) x less b = (b, omega (arith, x.1))
+pub same_met : {was is : Lifting} → SameTask was is → (ranks : List ℕ) (k : ℕ) → Met (odd is.colour) ranks (arc_at is.arcs.now k) → Met (odd was.colour) ranks (arc_at was.arcs.now k)
+same_met same ranks k met = rw (← same.arcs, ← same.colour) met
 
-  pub to_all : (ranks : List ℕ) (step : ℕ) (last : Option ℕ) → length arcs ≤ step → Below ranks → SweptTo ranks step last → Swept arcs p was ranks last
-  to_all ranks step None long below x = (
-    x.0,
-    λ k b.
-        let s = place_step forward (length arcs) k b in
-        let F : ℕ → Type 0 = λ j. Met p ranks (arc_at arcs j) in
-        subst F s.2 (x.1 s.0 (omega (arith, s.1))),
-  )
-  to_all ranks step (Some s) long below x = (x.0, x.1, λ _. below)
+-- after a sweep without a change the ranks are the smallest
+pub settled : (was is : Lifting) (r : Option ℕ) → SameTask was is → Below was.ranks.now → r ≡ None → Moved (AllMet was.arcs.now (odd was.colour)) was.ranks.now is.ranks.now r →
+    AllSmallest is.arcs.now (odd is.colour) is.ranks.now
+settled was is r same below e moved g tells =
+    let M : Option ℕ → Type 0 = Moved (AllMet was.arcs.now (odd was.colour)) was.ranks.now is.ranks.now in
+    let m : M None = subst M e moved in
+    met_smallest g (odd is.colour) is.arcs.now is.ranks.now is.by tells is.lifted (rw m.0 below) (rw (same.arcs, same.colour) m.1)

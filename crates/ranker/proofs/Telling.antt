@@ -15,9 +15,8 @@ use Rattle.plan.specs.declared.passage.Passage.{Passage}
 use Rattle.plan.specs.Passages.{passage_to, passage_at, passages_at, passages_in}
 use Rattle.loops.specs.Table.{graph_of, any_round, WellFormed}
 use Rattle.loops.proofs.Arcs.{arc, arc_to, arc_colour, count_at, closed}
-use Rattle.ranker.specs.declared.arc.Arc.{Arc}
 use Rattle.ranker.specs.Arcs.{arc_at, Tells}
-use Rattle.ranker.specs.Notes.{passage_of, Noted}
+use Rattle.ranker.specs.Notes.{Noted}
 
 -- what is in two lists one after the other
 has_append_cases : {X : Type 0} (xs ys : List X) (x : X) → ContainsAt (xs ++ ys) x → ContainsAt xs x ⊎ ContainsAt ys x
@@ -100,12 +99,12 @@ module _ {P : Type 0} (m : Meaning P) (rows : List (Row P)) where
       has_numbered (passages_at m rows) 0 rows x s s a.row (omega arith) a.there
       (has_numbered (passage_at m rows s a.row.latch) 0 (outcomes_of m a.row) x i i a.outcome (omega arith) a.gives one)
 
-  pub noted_tells : WellFormed m rows → (arcs : List Arc) (stamps : List ℕ) → Noted (length rows) (passages_in m rows) arcs stamps → Tells (length rows) arcs (graph_of m rows)
+  pub noted_tells : WellFormed m rows → (arcs : List Passage) (stamps : List (Option ℕ)) → Noted (length rows) (passages_in m rows) arcs stamps → Tells (length rows) arcs (graph_of m rows)
   noted_tells wf arcs stamps noted =
       record {
         size = refl;
         closed = closed m rows any_round wf;
-        true = λ k b. let x = told (passage_of (arc_at arcs k)) (noted.true k b) in record { row = x.from; outcome = x.outcome; colour = x.colour; to = x.to };
+        true = λ k b. let x = told (arc_at arcs k) (noted.true k b) in record { row = x.from; outcome = x.outcome; colour = x.colour; to = x.to };
         whole = λ s i b k.
             let w = noted.whole _ (passed wf s i b k) in
             (w.0, record { there = w.1.there; row = w.1.row; colour = w.1.colour; to = w.1.to });

@@ -2,15 +2,26 @@
 use Rattle.std.proofs.Common.{◌≡◌, ℕ, suc, ◌+◌, ◌%◌, ◌<◌, ◌≤◌, List, [], ◌∷◌, ◌++◌, length, get_or, drop, set, sym, refl, ap, ◌∙◌, subst, ⊎_elim, add-one, arith}
 use Rattle.std.proofs.lemmas.List.{drop_more, set_at, append_assoc}
 use Rattle.std.proofs.lemmas.Bool.{cases_eq, cases_lt}
+use Rattle.table.specs.declared.odd.OddColour.{OddColour}
+use Rattle.table.specs.declared.odd.OddColour.TheVariants.{One, Three, Five, Seven}
+use Rattle.table.specs.Odd.{odd}
 use Rattle.loops.specs.declared.pair.Pair.{Pair}
-use Rattle.loops.specs.Graph.{Graph}
-use Rattle.loops.specs.Lifting.{after, way, OnRing}
-use Rattle.loops.proofs.Rings.{after_more, way_more, length_way, ring_loses}
-use Rattle.ranker.specs.declared.arc.Arc.{Arc}
-use Rattle.ranker.specs.Arcs.{arc_at, Tells}
-use Rattle.ranker.specs.Lifts.{rank_in, pick_in}
-use Rattle.ranker.specs.Loops.{Written, Ringed}
-use Rattle.ranker.proofs.Raises.{leads}
+use Rattle.loops.specs.Graph.{Graph, largest}
+use Rattle.loops.specs.Lifting.{Lifted, after, way, OnRing}
+use Rattle.loops.proofs.Rings.{after_more, way_more, length_way, ring_top, ring_loses}
+use Rattle.plan.specs.declared.passage.Passage.{Passage}
+use Rattle.ranker.specs.Arcs.{arc_at, Tells, Told}
+use Rattle.std.proofs.Math.Logic.{∥∥₁_elim}
+use Rattle.std.specs.Coded.{Coded-set, coded_ℕ, ×_prop, le_prop}
+use Rattle.ranker.specs.Lifts.{rank_in, pick_in, Owned, LiftedBy, OnRings}
+use Rattle.ranker.specs.Loops.{Written}
+use Rattle.ranker.proofs.Raises.{picks, leads}
+
+pub odd_is : (c : OddColour) → odd c % 2 ≡ 1
+odd_is One = refl
+odd_is Three = refl
+odd_is Five = refl
+odd_is Seven = refl
 
 -- k pairs of the ring of a row are written, which lead to another row, at which it goes on
 pub record Along (g : Graph) (pick : ℕ → ℕ) (row k at : ℕ) (was is : List Pair) : Type 0 where
@@ -27,10 +38,10 @@ over es e was k q b =
     ap (λ (x : List Pair). set (es ++ x) k e) (drop_more was k e b)
     ∙ (set_at es (get_or was k e) (drop (k + 1) was) e k q ∙ sym (append_assoc es (e ∷ []) (drop (k + 1) was)))
 
-module _ (arcs : List Arc) (p : ℕ) (ranks by : List ℕ) (row : ℕ) (ring : Ringed arcs p ranks by row) (g : Graph) (tells : Tells (length ranks) arcs g)
+module _ (arcs : List Passage) (ranks by : List ℕ) (row : ℕ) (own : Owned arcs ranks by) (ring : OnRings arcs ranks by row) (g : Graph) (tells : Tells (length ranks) arcs g)
     (was is : List Pair) (k at : ℕ) (x : Along g (pick_in arcs by) row k at was is) where
   abbrev on : OnRing g (rank_in ranks) (pick_in arcs by) (length ranks) row
-  on = ring.1 g tells
+  on = ring g tells
 
   -- so far it is within the rows
   at_within : at < length ranks
@@ -46,10 +57,6 @@ module _ (arcs : List Arc) (p : ℕ) (ranks by : List ℕ) (row : ℕ) (ring : R
       (λ (h : on.length ≤ k). absurd (x.first on.length on.some (omega arith) on.back))
       (cases_lt k on.length)
 
-  pub along_bounds : (n : ℕ) → length ranks ≤ 1024 → length ranks ≤ length by → length ranks ≤ n → (at < length by) × (get_or by at 0 < length arcs) × (k < n) × (k < 1024)
-  along_bounds n few room fits =
-      (omega (arith, at_within), (ring.0.own at at_within at_lifted).0, omega (arith, k_within), omega (arith, k_within))
-
   abbrev pair : Pair
   pair = record { row = at; outcome = pick_in arcs by at }
 
@@ -57,7 +64,7 @@ module _ (arcs : List Arc) (p : ℕ) (ranks by : List ℕ) (row : ℕ) (ring : R
   next_there =
       after_more g (pick_in arcs by) k row
       ∙ ap (λ (s : ℕ). g.to s (pick_in arcs by s)) x.there
-      ∙ leads arcs p ranks by ring.0 at at_within at_lifted g tells
+      ∙ leads g arcs ranks by own tells at at_within at_lifted
 
   next_front : k < length was → set is k pair ≡ way g (pick_in arcs by) (k + 1) row ++ drop (k + 1) was
   next_front b =
@@ -79,14 +86,25 @@ module _ (arcs : List Arc) (p : ℕ) (ranks by : List ℕ) (row : ℕ) (ring : R
             (cases_eq j (k + 1));
       }
 
-  pub along_all : k < length was → (arc_at arcs (get_or by at 0)).to ≡ row → p % 2 ≡ 1 → Written g p was (k + 1) (set is k pair)
-  along_all b back odd =
+  pub along_all : (p : ℕ) → LiftedBy arcs p ranks by → k < length was → (arc_at arcs (get_or by at 0)).to ≡ row → p % 2 ≡ 1 → Written g p was (k + 1) (set is k pair)
+  along_all p lifted b back odd =
       let N : ℕ → Type 0 = λ i. after g (pick_in arcs by) i row ≡ row in
+      let back' : N (suc k) = subst N (add-one k) (next_there ∙ back) in
+      let top : largest g (way g (pick_in arcs by) (suc k) row) ≡ p =
+      ∥∥₁_elim (lifted g tells) (Coded-set coded_ℕ _ _) (λ (l : Lifted g p (rank_in ranks) (pick_in arcs by)). ring_top g p (rank_in ranks) (pick_in arcs by) tells.closed l (length ranks) k row on back') in
       record {
         loop = way g (pick_in arcs by) (k + 1) row;
-        losing =
-            rw add-one
-            (ring_loses g p (rank_in ranks) (pick_in arcs by) tells.closed (ring.0.lifted g tells) (length ranks) k row odd on (subst N (add-one k) (next_there ∙ back)) x.first);
+        losing = rw add-one (ring_loses g (rank_in ranks) (pick_in arcs by) tells.closed (picks g arcs ranks by own tells) p (length ranks) k row odd on back' x.first top);
         long = length_way g (pick_in arcs by) (k + 1) row;
         front = next_front b;
       }
+
+-- the way is within the rows
+module _ (arcs : List Passage) (ranks by : List ℕ) (row : ℕ) (own : Owned arcs ranks by) (ring : OnRings arcs ranks by row) (told : ∥ Told (length ranks) arcs ∥₁)
+    (was is : List Pair) (k at : ℕ) (along : (g : Graph) → Tells (length ranks) arcs g → Along g (pick_in arcs by) row k at was is) where
+  pub along_within : (at < length ranks) × ((0 < rank_in ranks at) × (k < length ranks))
+  along_within =
+      ∥∥₁_elim told (×_prop le_prop (×_prop le_prop le_prop))
+      (λ (t : Told (length ranks) arcs).
+      let x = along t.0 t.1 in
+      (at_within arcs ranks by row own ring t.0 t.1 was is k at x, (at_lifted arcs ranks by row own ring t.0 t.1 was is k at x, k_within arcs ranks by row own ring t.0 t.1 was is k at x)))

@@ -1,8 +1,10 @@
 -- Ranks of one colour on their way up from 0, as lists.
-use Rattle.std.specs.Prelude.{◌≡◌, ℕ, ◌+◌, ◌-◌, ◌<◌, ◌≤◌, Bool, true, false, cond, List, length, Some, None, sum_by, Option, ◌==◌, slice_index}
+use Rattle.std.specs.Prelude.{◌≡◌, ℕ, ◌+◌, ◌-◌, ◌<◌, ◌≤◌, cond, List, length, Some, None, sum_by, Option, ◌==◌, slice_index}
+use Rattle.std.specs.Iterator.{Yields}
+use Rattle.std.specs.List.{ContainsAt}
+use Rattle.plan.specs.declared.passage.Passage.{Passage}
 use Rattle.loops.specs.Graph.{Graph, Keeps}
 use Rattle.loops.specs.Lifting.{Lifted, OnRing}
-use Rattle.ranker.specs.declared.arc.Arc.{Arc}
 use Rattle.ranker.specs.Arcs.{arc_at, Tells}
 
 -- the rank of row s
@@ -10,16 +12,16 @@ abbrev pub rank_in : List ℕ → ℕ → ℕ
 rank_in ranks s = slice_index ranks s
 
 -- the outcome by which row s was lifted last: that of an arc, told by its place
-abbrev pub pick_in : List Arc → List ℕ → ℕ → ℕ
+abbrev pub pick_in : List Passage → List ℕ → ℕ → ℕ
 pick_in arcs by s = (arc_at arcs (slice_index by s)).outcome
 
 -- what an arc asks of the rank of its row for p
-abbrev pub due_by : ℕ → List ℕ → Arc → ℕ
+abbrev pub due_by : ℕ → List ℕ → Passage → ℕ
 due_by p ranks a = rank_in ranks a.to + cond (a.colour == p) 1 0
 
 -- the arc asks for no more than the rank of its row, if its colour is up to p
-abbrev pub Met : ℕ → List ℕ → Arc → Type 0
-Met p ranks a = a.colour ≤ p → due_by p ranks a ≤ rank_in ranks a.row
+abbrev pub Met : ℕ → List ℕ → Passage → Type 0
+Met p ranks a = a.colour ≤ p → due_by p ranks a ≤ rank_in ranks a.from
 
 abbrev pub Below : List ℕ → Type 0
 Below ranks = (s : ℕ) → s < length ranks → rank_in ranks s < length ranks
@@ -28,24 +30,31 @@ Below ranks = (s : ℕ) → s < length ranks → rank_in ranks s < length ranks
 abbrev pub slack : List ℕ → ℕ
 slack ranks = sum_by (λ r. length ranks - r) ranks
 
--- the ranks are lifted for p, in every graph that the arcs tell of; a row above 0 was lifted last by an arc of its own
-pub record Lifts (arcs : List Arc) (p : ℕ) (ranks by : List ℕ) : Type 0 where
-  pub own : (s : ℕ) → s < length ranks → 0 < rank_in ranks s → (slice_index by s < length arcs) × ((arc_at arcs (slice_index by s)).row ≡ s)
-  pub lifted : (g : Graph) → Tells (length ranks) arcs g → Lifted g p (rank_in ranks) (pick_in arcs by)
+-- a row above 0 was lifted last by an arc of its own
+abbrev pub Owned : List Passage → List ℕ → List ℕ → Type 0
+Owned arcs ranks by = (s : ℕ) → s < length ranks → 0 < rank_in ranks s → (slice_index by s < length arcs) × ((arc_at arcs (slice_index by s)).from ≡ s)
+
+-- the ranks are lifted for p, in every graph that the arcs tell of
+abbrev pub LiftedBy : List Passage → ℕ → List ℕ → List ℕ → Type 0
+LiftedBy arcs p ranks by = (g : Graph) → Tells (length ranks) arcs g → ∥ Lifted g p (rank_in ranks) (pick_in arcs by) ∥₁
 
 -- row s lies on a ring of the arcs that lifted it and the next
-abbrev pub OnRings : List Arc → List ℕ → List ℕ → ℕ → Type 0
+abbrev pub OnRings : List Passage → List ℕ → List ℕ → ℕ → Type 0
 OnRings arcs ranks by s = (g : Graph) → Tells (length ranks) arcs g → OnRing g (rank_in ranks) (pick_in arcs by) (length ranks) s
 
--- the place that comes at a step over n places, from the first on or from the last
-abbrev pub place_at : Bool → ℕ → ℕ → ℕ
-place_at true n step = step
-place_at false n step = n - 1 - step
+-- the numbers given from s on are below n, and when they end each of those was given
+pub record Covers {S : Type 0} (steps : S → Option ℕ → S → Type 0) (s : S) (n : ℕ) : Type 0 where
+  pub within : (ks : List ℕ) (t u : S) (k : ℕ) → Yields steps s ks t → steps t (Some k) u → k < n
+  pub whole : (ks : List ℕ) (t u : S) → Yields steps s ks t → steps t None u → (k : ℕ) → k < n → ContainsAt ks k
 
--- what a sweep over the arcs leaves: all are met and nothing has changed, or row s was lifted last
-abbrev pub Swept : List Arc → ℕ → List ℕ → List ℕ → Option ℕ → Type 0
-Swept arcs p was ranks None = (ranks ≡ was) × ((k : ℕ) → k < length arcs → Met p ranks (arc_at arcs k))
-Swept arcs p was ranks (Some s) = (s < length ranks) × (slack ranks < slack was) × (rank_in ranks s < length ranks → Below ranks)
+-- how the ranks have moved: not at all, and M holds of them, or row s was lifted last
+abbrev pub Moved : (List ℕ → Type 0) → List ℕ → List ℕ → Option ℕ → Type 0
+Moved M was ranks None = (ranks ≡ was) × M ranks
+Moved M was ranks (Some s) = (s < length ranks) × (slack ranks < slack was) × (rank_in ranks s < length ranks → Below ranks)
+
+-- every arc is met
+abbrev pub AllMet : List Passage → ℕ → List ℕ → Type 0
+AllMet arcs p ranks = (k : ℕ) → k < length arcs → Met p ranks (arc_at arcs k)
 
 -- the smallest ranks that keep the rule for p
 pub record Smallest (g : Graph) (p : ℕ) (rank : ℕ → ℕ) : Type 0 where
@@ -53,5 +62,5 @@ pub record Smallest (g : Graph) (p : ℕ) (rank : ℕ → ℕ) : Type 0 where
   pub below : (s : ℕ) → s < g.size → rank s < g.size
   pub least : (other : ℕ → ℕ) → Keeps g p other → (s : ℕ) → s < g.size → rank s ≤ other s
 
-abbrev pub AllSmallest : List Arc → ℕ → List ℕ → Type 0
+abbrev pub AllSmallest : List Passage → ℕ → List ℕ → Type 0
 AllSmallest arcs p ranks = (g : Graph) → Tells (length ranks) arcs g → Smallest g p (rank_in ranks)

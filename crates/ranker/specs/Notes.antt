@@ -1,14 +1,9 @@
 -- Arcs noted from the passages shown so far.
-use Rattle.std.specs.Prelude.{◌≡◌, ℕ, suc, ◌+◌, ◌*◌, ◌<◌, ◌≤◌, List, length, count_by, nat_eq, slice_index}
+use Rattle.std.specs.Prelude.{◌≡◌, ℕ, ◌+◌, ◌*◌, ◌<◌, ◌≤◌, Bool, false, List, length, count_by, Option, Some, None, ◌==◌, slice_index_or}
 use Rattle.std.specs.List.{ContainsAt, AllByRecursion}
 use Rattle.plan.specs.declared.passage.Passage.{Passage}
 use Rattle.plan.specs.Passages.{UpTo}
-use Rattle.ranker.specs.declared.arc.Arc.{Arc}
 use Rattle.ranker.specs.Arcs.{arc_at}
-
--- the passage that an arc was noted from
-abbrev pub passage_of : Arc → Passage
-passage_of a = record { from = a.row; outcome = a.outcome; colour = a.colour; to = a.to }
 
 -- the place of a target and colour among the stamps
 abbrev pub key_of : ℕ → ℕ → ℕ
@@ -21,25 +16,30 @@ pub record Proper (n : ℕ) (x : Passage) : Type 0 where
   pub colour : x.colour ≤ 7
 
 -- arc k stands for passage x
-pub record Stands (arcs : List Arc) (x : Passage) (k : ℕ) : Type 0 where
+pub record Stands (arcs : List Passage) (x : Passage) (k : ℕ) : Type 0 where
   pub there : k < length arcs
-  pub row : (arc_at arcs k).row ≡ x.from
+  pub row : (arc_at arcs k).from ≡ x.from
   pub colour : (arc_at arcs k).colour ≡ x.colour
   pub to : (arc_at arcs k).to ≡ x.to
 
+-- the stamp tells of row s
+abbrev pub is_of : ℕ → Option ℕ → Bool
+is_of s None = false
+is_of s (Some v) = v == s
+
 -- arc k is one of row v that has this key
-pub record Keyed (arcs : List Arc) (key v k : ℕ) : Type 0 where
+pub record Keyed (arcs : List Passage) (key v k : ℕ) : Type 0 where
   pub there : k < length arcs
-  pub row : (arc_at arcs k).row ≡ v
+  pub row : (arc_at arcs k).from ≡ v
   pub keyed : key_of (arc_at arcs k).to (arc_at arcs k).colour ≡ key
 
 -- The arcs of some passages of a table of n rows: each was one of them, and each of them has one that stands for it. The
--- stamps tell for each key the row of the last such arc, plus 1; no row has more arcs than there are keys.
-pub record Noted (n : ℕ) (before : List Passage) (arcs : List Arc) (stamps : List ℕ) : Type 0 where
+-- stamps tell for each key the row of the last such arc; no row has more arcs than there are keys.
+pub record Noted (n : ℕ) (before : List Passage) (arcs : List Passage) (stamps : List (Option ℕ)) : Type 0 where
   pub few : n ≤ 1024
   pub keys : length stamps ≡ 8192
   pub proper : AllByRecursion (Proper n) before
-  pub true : (k : ℕ) → k < length arcs → ContainsAt before (passage_of (arc_at arcs k))
+  pub true : (k : ℕ) → k < length arcs → ContainsAt before (arc_at arcs k)
   pub whole : (x : Passage) → ContainsAt before x → (k : ℕ) × Stands arcs x k
-  pub stamped : (key v : ℕ) → slice_index stamps key ≡ suc v → (k : ℕ) × Keyed arcs key v k
-  pub spare : (s : ℕ) → UpTo s before → length arcs ≤ 8192 * s + count_by (λ v. nat_eq v (suc s)) stamps
+  pub stamped : (key v : ℕ) → slice_index_or stamps key None ≡ Some v → (k : ℕ) × Keyed arcs key v k
+  pub spare : (s : ℕ) → UpTo s before → length arcs ≤ 8192 * s + count_by (is_of s) stamps

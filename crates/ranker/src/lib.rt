@@ -1,7 +1,6 @@
 //! Ranks for a table, or a losing loop of it.
 #![tactic(auto)]
 
-mod arc;
 pub mod error;
 mod lifting;
 mod notes;

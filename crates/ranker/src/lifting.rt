@@ -1,116 +1,167 @@
 //! The ranks of one odd colour, lifted from 0 until every arc is met.
-ghost use Rattle.std.specs.Prelude.{◌≡◌, ℕ, ◌+◌, ◌^◌, ◌<◌, ◌≤◌, true, false, cond, length, MatchOption};
-ghost use Rattle.ranker.specs.Arcs.{arc_at, Told};
-ghost use Rattle.ranker.specs.Lifts.{rank_in, due_by, Met, Below, slack, Lifts, OnRings, place_at, Swept, AllSmallest};
+ghost use Rattle.std.specs.Prelude.{◌≡◌, ℕ, ◌^◌, ◌<◌, ◌≤◌, length, MatchOption};
+ghost use Rattle.std.specs.Iterator.{IsFinite};
+ghost use Rattle.table.specs.Odd.{odd};
+ghost use Rattle.loops.specs.Graph.{Graph};
+ghost use Rattle.ranker.specs.Arcs.{arc_at, Tells, Told};
+ghost use Rattle.ranker.specs.Lifts.{rank_in, due_by, Met, Below, slack, Owned, LiftedBy, OnRings, Covers, Moved, AllMet, AllSmallest};
+ghost use Rattle.ranker.specs.Loops.{Written};
 
-use crate::arc::Arc;
+use loops::pair::Pair;
+use plan::passage::Passage;
+use table::odd::OddColour;
+use table::row::MAX_ROWS;
 
-/// What an arc asks of the rank of its row for a colour: the rank of the row that it leads to, and one more if it has
-/// this colour.
-fn due(arc: Arc, colour: u8, ranks: &[u16]) -> u16
-    requires { (arc.to < length ranks.now) × (rank_in ranks.now arc.to < 1024) }
-    ensures { result ≡ due_by colour ranks.now arc }
-{
-    let rank = ranks[arc.to as usize];
-    if arc.colour == colour { rank + 1 } else { rank }
+/// The ranks of all rows for one odd colour, on their way up from 0.
+#[derive(Drop)]
+pub(crate) struct Lifting<'a> {
+    arcs: &'a [Passage],
+    colour: OddColour,
+    ranks: &'a mut [u16],
+    /// For each row above 0, the place of the arc that lifted it last.
+    by: [u32; MAX_ROWS],
+    ghost few: { length arcs.now ≤ 2 ^ 24 },
+    ghost rows: { length ranks.now ≤ 1024 },
+    ghost told: { ∥ Told (length ranks.now) arcs.now ∥₁ },
+    ghost own: { Owned arcs.now ranks.now by },
+    ghost lifted: { LiftedBy arcs.now (odd colour) ranks.now by },
 }
 
-/// Lifts the row of arc k to what the arc asks for, and tells whether that was needed.
-fn lift(arcs: &[Arc], colour: u8, k: usize, ranks: &mut [u16], by: &mut [u32]) -> bool
-    requires lengths { (length arcs.now ≤ 2 ^ 24) × ((length ranks.old ≤ 1024) × (length ranks.old ≤ length by.old)) }
-    requires told { Told (length ranks.old) arcs.now }
-    requires there { k < length arcs.now }
-    requires lifts { Lifts arcs.now colour ranks.old by.old }
-    requires below { Below ranks.old }
-    ensures lifts { Lifts arcs.now colour ranks.new by.new }
-    ensures rose { result ≡ true → (slack ranks.new < slack ranks.old) × (rank_in ranks.new (arc_at arcs.now k).row < length ranks.old → Below ranks.new) }
-    ensures met { result ≡ false → (ranks.new ≡ ranks.old) × Met colour ranks.old (arc_at arcs.now k) }
-{
-    let arc = arcs[k];
-    if arc.colour > colour {
-        return false;
-    }
-    let due = due(arc, colour, ranks);
-    let row = arc.row as usize;
-    if due <= ranks[row] {
-        return false;
-    }
-    ranks[row] = due;
-    by[row] = k as u32;
-    true
-}
+impl<'a> Lifting<'a> {
+    ghost use Rattle.ranker.specs.Task.{SameTask};
 
-/// The place of the arc that comes at a step, from the first on or from the last.
-fn place_at(forward: bool, count: usize, step: usize) -> usize
-    requires { step < count }
-    ensures place { result ≡ place_at forward count step }
-    ensures within { result < count }
-{
-    if forward { step } else { count - 1 - step }
-}
-
-/// Lifts along every arc once, from the first on or from the last, and tells which row was lifted last. It stops at once
-/// where a rank has come to the number of rows.
-fn sweep(arcs: &[Arc], colour: u8, forward: bool, ranks: &mut [u16], by: &mut [u32]) -> Option<u16>
-    requires lengths { (length arcs.now ≤ 2 ^ 24) × ((length ranks.old ≤ 1024) × (length ranks.old ≤ length by.old)) }
-    requires told { Told (length ranks.old) arcs.now }
-    requires lifts { Lifts arcs.now colour ranks.old by.old }
-    requires below { Below ranks.old }
-    ensures lifts { Lifts arcs.now colour ranks.new by.new }
-    ensures swept { Swept arcs.now colour ranks.old ranks.new result }
-{
-    let mut last = None;
-    for step in 0..arcs.len() {
-        let k = place_at(forward, arcs.len(), step);
-        if lift(arcs, colour, k, ranks, by) {
-            let row = arcs[k].row;
-            last = Some(row);
-            if ranks[row as usize] as usize >= ranks.len() {
-                return last;
-            }
+    /// Begins with all ranks 0.
+    pub(crate) fn new(arcs: &'a [Passage], colour: OddColour, ranks: &'a mut [u16]) -> Lifting<'a>
+        requires few { length arcs.now ≤ 2 ^ 24 }
+        requires rows { length ranks.old ≤ 1024 }
+        requires told { Told (length ranks.old) arcs.now }
+        ensures arcs { result.arcs ≡ arcs.entry }
+        ensures colour { result.colour ≡ colour }
+        ensures list { result.ranks.ghost_name ≡ ranks.entry.ghost_name }
+        ensures rows { length result.ranks.now ≡ length ranks.old }
+        ensures below { Below result.ranks.now }
+    {
+        ranks.fill(0);
+        Lifting {
+            arcs,
+            colour,
+            ranks,
+            by: [0; MAX_ROWS],
         }
     }
-    last
-}
 
-/// Follows the arcs that lifted a row, and the next, for as many steps as there are rows: the row reached lies on a ring
-/// of such arcs. There is none where the way ends before, at a row of rank 0.
-fn ring_from(arcs: &[Arc], ranks: &[u16], by: &[u32], row: u16) -> Option<u16>
-    requires lengths { (length arcs.now ≤ 2 ^ 24) × ((length ranks.now ≤ 1024) × (length ranks.now ≤ length by.now)) }
-    requires told { Told (length ranks.now) arcs.now }
-    requires lifts { (p : ℕ) × Lifts arcs.now p ranks.now by.now }
-    requires there { row < length ranks.now }
-    ensures { MatchOption result (rank_in ranks.now row < length ranks.now) (OnRings arcs.now ranks.now by.now) }
-{
-    let mut at = row;
-    for _step in 0..ranks.len() {
-        if ranks[at as usize] == 0 {
+    /// What an arc asks of the rank of its row: the rank of the row that it leads to, and one more if it has the colour.
+    fn due(&self, arc: Passage) -> u16
+        requires { (arc.to < length self.now.ranks.now) × (rank_in self.now.ranks.now arc.to < 1024) }
+        ensures { result ≡ due_by (odd self.now.colour) self.now.ranks.now arc }
+    {
+        let rank = self.ranks[arc.to as usize];
+        if arc.colour == self.colour.number() {
+            rank + 1
+        } else {
+            rank
+        }
+    }
+
+    /// Lifts the row of arc k to what the arc asks for, and tells the row if that was needed.
+    fn lift(&mut self, k: usize) -> Option<u16>
+        requires there { k < length self.old.arcs.now }
+        requires below { Below self.old.ranks.now }
+        ensures same { SameTask self.old self.new }
+        ensures moved { Moved (λ ranks. Met (odd self.old.colour) ranks (arc_at self.old.arcs.now k)) self.old.ranks.now self.new.ranks.now result }
+    {
+        let arc = self.arcs[k];
+        if arc.colour > self.colour.number() {
             return None;
         }
-        at = arcs[by[at as usize] as usize].to;
-    }
-    Some(at)
-}
-
-/// Fills in the smallest ranks for an odd colour that keep the rule along every arc; or tells a row on a ring of arcs
-/// that lift one another without end.
-pub(crate) fn rank_colour(
-    arcs: &[Arc],
-    colour: u8,
-    ranks: &mut [u16],
-    by: &mut [u32],
-) -> Option<u16>
-    requires lengths { (length arcs.now ≤ 2 ^ 24) × ((length ranks.old ≤ 1024) × (length ranks.old ≤ length by.old)) }
-    requires told { Told (length ranks.old) arcs.now }
-    ensures { MatchOption result (AllSmallest arcs.now colour ranks.new) (λ row. Lifts arcs.now colour ranks.new by.new × OnRings arcs.now ranks.new by.new row) }
-{
-    ranks.fill(0);
-    let mut forward = false;
-    while let Some(row) = sweep(arcs, colour, forward, ranks, by) {
-        if let Some(ring) = ring_from(arcs, ranks, by, row) {
-            return Some(ring);
+        let due = self.due(arc);
+        let row = arc.from as usize;
+        if due <= self.ranks[row] {
+            return None;
         }
-        forward = !forward;
+        self.by[row] = k as u32;
+        self.ranks[row] = due;
+        Some(arc.from)
     }
-    None
+
+    /// Lifts along the arcs at these places, which are all that there are, and tells which row was lifted last. It stops
+    /// at once where a rank has come to the number of rows.
+    fn sweep<I: Iterator<Item = usize> + Drop>(&mut self, places: I) -> Option<u16>
+        requires can { I.can_next places }
+        requires ends { IsFinite (I.remaining places) }
+        requires covers { Covers I.next_gives places (length self.old.arcs.now) }
+        requires below { Below self.old.ranks.now }
+        ensures same { SameTask self.old self.new }
+        ensures moved { Moved (AllMet self.old.arcs.now (odd self.old.colour)) self.old.ranks.now self.new.ranks.now result }
+    {
+        let mut last = None;
+        for k in places {
+            if let Some(row) = self.lift(k) {
+                last = Some(row);
+                if self.ranks[row as usize] as usize >= self.ranks.len() {
+                    return last;
+                }
+            }
+        }
+        last
+    }
+
+    /// Follows the arcs that lifted a row, and the next, for as many steps as there are rows: the row reached lies on a
+    /// ring of such arcs. There is none where the way ends before, at a row of rank 0.
+    fn ring_from(&self, row: u16) -> Option<u16>
+        requires { row < length self.now.ranks.now }
+        ensures { MatchOption result (rank_in self.now.ranks.now row < length self.now.ranks.now) (OnRings self.now.arcs.now self.now.ranks.now self.now.by) }
+    {
+        let mut at = row;
+        for _step in 0..self.ranks.len() {
+            if self.ranks[at as usize] == 0 {
+                return None;
+            }
+            at = self.arcs[self.by[at as usize] as usize].to;
+        }
+        Some(at)
+    }
+
+    /// Fills in the smallest ranks that keep the rule along every arc; or tells a row on a ring of arcs that lift one
+    /// another without end.
+    pub(crate) fn settle(&mut self) -> Option<u16>
+        requires { Below self.old.ranks.now }
+        ensures same { SameTask self.old self.new }
+        ensures settled { MatchOption result (AllSmallest self.new.arcs.now (odd self.new.colour) self.new.ranks.now) (OnRings self.new.arcs.now self.new.ranks.now self.new.by) }
+    {
+        let count = self.arcs.len();
+        let mut forward = false;
+        while let Some(row) = if forward {
+            self.sweep(0..count)
+        } else {
+            self.sweep((0..count).rev())
+        } {
+            if let Some(ring) = self.ring_from(row) {
+                return Some(ring);
+            }
+            forward = !forward;
+        }
+        None
+    }
+
+    /// Writes the ring of arcs that a row lies on to the front of the list, from that row on, and tells its length.
+    pub(crate) fn write_ring(&self, row: u16, losing: &mut [Pair]) -> u16
+        requires ring { OnRings self.now.arcs.now self.now.ranks.now self.now.by row }
+        requires room { length self.now.ranks.now ≤ length losing.old }
+        ensures { (g : Graph) → Tells (length self.now.ranks.now) self.now.arcs.now g → Written g (odd self.now.colour) losing.old result losing.new }
+    {
+        let mut at = row;
+        for (k, pair) in losing.iter_mut().enumerate() {
+            let arc = self.arcs[self.by[at as usize] as usize];
+            *pair = Pair {
+                row: at,
+                outcome: arc.outcome,
+            };
+            at = arc.to;
+            if at == row {
+                return k as u16 + 1;
+            }
+        }
+        unreachable!()
+    }
 }

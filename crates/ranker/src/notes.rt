@@ -2,7 +2,6 @@
 ghost use Rattle.std.specs.Prelude.{◌*◌, true, ◌&&◌, ◌==◌, nat_le};
 ghost use Rattle.ranker.specs.Notes.{Noted};
 
-use crate::arc::Arc;
 use crate::scratch::{COLOURS, KEYS, Scratch};
 use plan::passage::Passage;
 use plan::ranks::RANKS_PER_ROW;
@@ -12,8 +11,8 @@ use plan::visitor::Visitor;
 #[derive(Drop)]
 pub(crate) struct Notes {
     pub(crate) scratch: Scratch,
-    /// For each target and colour, one more than the row last noted to lead there so.
-    pub(crate) stamps: [u16; KEYS],
+    /// For each target and colour, the row last noted to lead there so.
+    pub(crate) stamps: [Option<u16>; KEYS],
     pub(crate) ranks: usize,
     pub(crate) pairs: usize,
 }
@@ -27,21 +26,16 @@ impl Visitor for Notes {
 
     fn begin(&mut self, rows: usize) -> bool {
         self.scratch.arcs.clear();
-        self.stamps.fill(0);
+        self.stamps.fill(None);
         self.ranks == RANKS_PER_ROW * rows && rows <= self.pairs
     }
 
     fn visit(&mut self, _rows: usize, passage: Passage) -> bool {
         let key = passage.to as usize * COLOURS + passage.colour as usize;
-        let stamp = passage.from + 1;
+        let stamp = Some(passage.from);
         if self.stamps[key] != stamp {
             self.stamps[key] = stamp;
-            self.scratch.arcs.push_reserved(Arc {
-                row: passage.from,
-                outcome: passage.outcome,
-                to: passage.to,
-                colour: passage.colour as u8,
-            });
+            self.scratch.arcs.push_reserved(passage);
         }
         true
     }

@@ -1,69 +1,75 @@
 //! The ranker.
 ghost use Rattle.std.specs.Prelude.{◌≡◌, ℕ, ◌*◌, ◌%◌, ◌^◌, ◌<◌, ◌≤◌, false, List, length, is_ok, Decides};
+ghost use Rattle.table.specs.Odd.{odd};
 ghost use Rattle.loops.specs.Graph.{Graph};
 ghost use Rattle.ranker.specs.Arcs.{Tells, Told};
-ghost use Rattle.ranker.specs.Loops.{Written, Ringed, Drafted};
+ghost use Rattle.ranker.specs.Loops.{DraftedFor, Drafted};
 ghost use Rattle.ranker.specs.Ranked.{form_faults, Ranked, Sound, RankedOr};
 
-use crate::arc::Arc;
 use crate::error::RankError;
-use crate::lifting::rank_colour;
+use crate::lifting::Lifting;
 use crate::notes::Notes;
 use crate::scratch::{KEYS, Scratch};
 use arena::arena::Arena;
 use loops::pair::Pair;
 use plan::check::survey;
+use plan::passage::Passage;
 use plan::ranks::RANKS_PER_ROW;
 use std::alloc::Global;
 use table::accepted::Accepted;
 use table::fault::Fault;
+use table::odd::OddColour;
 use table::row::{MAX_ROWS, Row};
 
 const MAX_RANKS: usize = RANKS_PER_ROW * MAX_ROWS;
 
-/// Writes the ring of arcs that a row lies on to the front of the list, from that row on, and tells its length.
-fn write_loop(arcs: &[Arc], by: &[u32], row: u16, losing: &mut [Pair]) -> u16
-    requires ring { (p : ℕ) × ((ranks : List ℕ) × (Ringed arcs.now p ranks by.now row × Told (length ranks) arcs.now × (length ranks ≤ 1024) × (length ranks ≤ length by.now) × (length ranks ≤ length losing.old))) }
-    ensures { (p : ℕ) (ranks : List ℕ) (g : Graph) → Ringed arcs.now p ranks by.now row → Tells (length ranks) arcs.now g → p % 2 ≡ 1 → Written g p losing.old result losing.new }
+/// Drafts the smallest ranks for an odd colour; or writes a losing loop whose largest colour it is.
+fn draft_colour(
+    arcs: &[Passage],
+    colour: OddColour,
+    ranks: &mut [u16],
+    losing: &mut [Pair],
+) -> Result<(), Fault>
+    requires lengths { (length arcs.now ≤ 2 ^ 24) × ((length ranks.old ≤ 1024) × (length ranks.old ≤ length losing.old)) }
+    requires told { Told (length ranks.old) arcs.now }
+    ensures { (g : Graph) → Tells (length ranks.old) arcs.now g → DraftedFor g (odd colour) losing.old result ranks.new losing.new }
 {
-    let mut at = row;
-    let mut length = 0;
-    'ring: loop {
-        let arc = arcs[by[at as usize] as usize];
-        losing[length as usize] = Pair {
-            row: at,
-            outcome: arc.outcome,
-        };
-        length += 1;
-        at = arc.to;
-        if at == row {
-            return length;
-        }
+    let mut lifting = Lifting::new(arcs, colour, ranks);
+    match lifting.settle() {
+        Some(row) => Err(Fault::LosingLoop {
+            length: lifting.write_ring(row, losing),
+            colour: colour.number() as u8,
+        }),
+        None => Ok(()),
     }
 }
 
 /// Drafts the smallest ranks for each odd colour, in its stretch of n ranks; or writes a losing loop of the smallest odd
 /// colour that is the largest of one.
-fn draft_ranks(arcs: &[Arc], n: usize, draft: &mut [u16], losing: &mut [Pair]) -> Result<(), Fault>
+fn draft_ranks(
+    arcs: &[Passage],
+    n: usize,
+    draft: &mut [u16],
+    losing: &mut [Pair],
+) -> Result<(), Fault>
     requires lengths { (length arcs.now ≤ 2 ^ 24) × ((n ≤ 1024) × ((length draft.old ≡ 4 * n) × (n ≤ length losing.old))) }
     requires told { Told n arcs.now }
     ensures { (g : Graph) → Tells n arcs.now g → Drafted g n losing.old result draft.new losing.new }
 {
-    let mut by = [0; MAX_ROWS];
-    for q in 0..RANKS_PER_ROW {
-        let colour = 2 * q as u8 + 1;
-        let stretch = &mut draft[q * n..(q + 1) * n];
-        if let Some(row) = rank_colour(arcs, colour, stretch, &mut by) {
-            let length = write_loop(arcs, &by, row, losing);
-            return Err(Fault::LosingLoop { length, colour });
-        }
+    for (q, &colour) in OddColour::ALL.iter().enumerate() {
+        draft_colour(arcs, colour, &mut draft[q * n..(q + 1) * n], losing)?;
     }
     Ok(())
 }
 
 /// Fills in the smallest ranks of n rows that keep the rule along the arcs; or writes a losing loop and leaves the ranks
 /// as they are.
-fn rank_arcs(arcs: &[Arc], n: usize, ranks: &mut [u16], losing: &mut [Pair]) -> Result<(), Fault>
+fn rank_arcs(
+    arcs: &[Passage],
+    n: usize,
+    ranks: &mut [u16],
+    losing: &mut [Pair],
+) -> Result<(), Fault>
     requires lengths { (length arcs.now ≤ 2 ^ 24) × ((n ≤ 1024) × ((length ranks.old ≡ 4 * n) × (n ≤ length losing.old))) }
     requires told { Told n arcs.now }
     ensures drafted { (g : Graph) → Tells n arcs.now g → Drafted g n losing.old result ranks.new losing.new }
@@ -90,7 +96,7 @@ pub fn rank_with<A: Arena>(
 {
     let mut notes = Notes {
         scratch,
-        stamps: [0; KEYS],
+        stamps: [None; KEYS],
         ranks: ranks.len(),
         pairs: losing.len(),
     };

@@ -1,7 +1,7 @@
 //! Memory to rank with.
 ghost use Rattle.std.specs.Prelude.{◌≡◌, ◌≤◌, [], IfOk, vec_capacity};
 
-use crate::arc::Arc;
+use plan::passage::Passage;
 use std::alloc::{AllocError, Global};
 use table::row::MAX_ROWS;
 
@@ -14,7 +14,7 @@ pub(crate) const KEYS: usize = MAX_ROWS * COLOURS;
 /// Room for the arcs of any table.
 #[derive(Drop)]
 pub struct Scratch {
-    pub(crate) arcs: Vec<Arc>,
+    pub(crate) arcs: Vec<Passage>,
     ghost room: { 8388608 ≤ vec_capacity arcs },
 }
 

@@ -1,4 +1,4 @@
-use Rattle.std.proofs.Common.{◌≡◌, ℕ, ◌+◌, ◌*◌, ◌<◌, length, get_or}
+use Rattle.std.proofs.Common.{◌≡◌, ℕ, ◌+◌, ◌*◌, ◌<◌, get_or}
 use Rattle.loops.specs.Graph.{Graph}
 use Rattle.ranker.specs.Arcs.{Tells}
 use Rattle.ranker.specs.Lifts.{Smallest}
@@ -6,6 +6,5 @@ use Rattle.ranker.proofs.ranker.draft_ranks.Given as goal
 
 abbrev pub invariant-loop-q : goal.invariant-loop-q
 invariant-loop-q l =
-    (length l.by ≡ 1024)
-    × (l.losing ≡ l.initial.losing)
+    (l.losing ≡ l.initial.losing)
     × ((g : Graph) → Tells l.n l.arcs g → (j : ℕ) → j < l.q → Smallest g (2 * j + 1) (λ s. get_or l.draft (j * l.n + s) 0))

@@ -1,7 +1,7 @@
 use Rattle.std.proofs.Common.{List, length, Err, vec_items, sym, refl, ap, ◌∙◌, subst, arith}
 use Rattle.std.proofs.lemmas.Result.{err_from_is_err_and}
 use Rattle.loops.specs.Table.{graph_of}
-use Rattle.ranker.specs.declared.arc.Arc.{Arc}
+use Rattle.plan.specs.declared.passage.Passage.{Passage}
 use Rattle.ranker.specs.Arcs.{Tells}
 use Rattle.ranker.proofs.Noting.{noted_few}
 use Rattle.ranker.proofs.Telling.{noted_tells}
@@ -17,7 +17,7 @@ rank_arcs-requires g c =
     let notes = c.survey.new.visitor in
     let e = c.in_ok-accepted.ensures in
     let a = c.in_ok-accepted.accepted in
-    let F : List Arc → Type 0 = λ arcs. Tells (length rows) arcs (graph_of m rows) in
+    let F : List Passage → Type 0 = λ arcs. Tells (length rows) arcs (graph_of m rows) in
     record {
       lengths = (omega (arith, ap length c.deref.ensures.value, noted_few (length rows) _ (vec_items notes.scratch.arcs) notes.stamps (e.shown refl)), (few m rows ranks losing a e.answers, (four m rows ranks losing a e.answers, enough m rows ranks losing a e.answers)));
       told = (graph_of m rows, subst F (sym c.deref.ensures.value) (noted_tells m rows (well m rows ranks losing a e.answers) (vec_items notes.scratch.arcs) notes.stamps (e.shown refl)));
@@ -32,7 +32,7 @@ returns-in_err-rank_arcs g c =
     let notes = c.survey.new.visitor in
     let e = c.in_ok-accepted.ensures in
     let a = c.in_ok-accepted.accepted in
-    let F : List Arc → Type 0 = λ arcs. Tells (length rows) arcs (graph_of m rows) in
+    let F : List Passage → Type 0 = λ arcs. Tells (length rows) arcs (graph_of m rows) in
     let tells : Tells (length rows) c.deref.result.now (graph_of m rows) =
     subst F (sym c.deref.ensures.value) (noted_tells m rows (well m rows ranks losing a e.answers) (vec_items notes.scratch.arcs) notes.stamps (e.shown refl)) in
     let p = err_from_is_err_and c.from_residual-in_err-rank_arcs.result c.from_residual-in_err-rank_arcs.ensures.1 in
@@ -53,7 +53,7 @@ returns g c =
     let notes = c.survey.new.visitor in
     let e = c.in_ok-accepted.ensures in
     let a = c.in_ok-accepted.accepted in
-    let F : List Arc → Type 0 = λ arcs. Tells (length rows) arcs (graph_of m rows) in
+    let F : List Passage → Type 0 = λ arcs. Tells (length rows) arcs (graph_of m rows) in
     let tells : Tells (length rows) c.deref.result.now (graph_of m rows) =
     subst F (sym c.deref.ensures.value) (noted_tells m rows (well m rows ranks losing a e.answers) (vec_items notes.scratch.arcs) notes.stamps (e.shown refl)) in
     let d = c.in_ok-rank_arcs.ensures.drafted (graph_of m rows) tells in
