@@ -1,12 +1,12 @@
 -- What is read is sound but for the start, so that a text without a fault is refused exactly when it has no start.
 use Rattle.std.proofs.Common.{◌≡◌, ℕ, zero, suc, ◌+◌, ◌*◌, ◌<◌, ◌≤◌, Bool, true, false, cond, ◌&&◌, ◌||◌, eqb, ltb, leb, List, [], ◌∷◌, ◌++◌, map, length, get_or, drop, is_some, IfSome, Some, None, Ok, Err, Option, Result, unwrap_or, sym, refl, ap, ◌∙◌, subst, inl, inr, add-zero, arith, lit≤}
-use Rattle.std.specs.List.{AllByRecursion}
+use Rattle.std.specs.List.{AllByRecursion, list_all}
 use Rattle.std.proofs.ByRecursion.{All-push, All-get_or, All-append, All-map, All-weaker}
 use Rattle.std.proofs.lemmas.Slice.Eq.{bytes_eq-Decides}
 use Rattle.std.proofs.lemmas.List.{length_push, length-map, length-append, length-drop, get_or-drop, get_or_past}
 use Rattle.std.proofs.lemmas.Bool.{cond-false, cond_both, eqb-true, ne_eqb, and_parts, and_from, or_left, or_right, not_from_false, cases_lt, lt-ltb, le-ltb, le-leb}
 use Rattle.std.proofs.lemmas.Bool.Decides.{nat_tests}
-use Rattle.regions.specs.Code.{every, within, is_own}
+use Rattle.regions.specs.Code.{within, is_own}
 use Rattle.game.specs.declared.bounds.Bounds.{Bounds}
 use Rattle.game.specs.Intervals.{fitting, inhabited, bounded}
 use Rattle.game.specs.Start.{well_made}
@@ -277,7 +277,7 @@ nothing_in_order = record { few_clocks = lit≤ tt; ceilings = tt; few_locations
 
 -- The game
 
-all_every : {X : Type 0} (p : X → Bool) (xs : List X) → AllByRecursion (λ x. p x ≡ true) xs → every p xs ≡ true
+all_every : {X : Type 0} (p : X → Bool) (xs : List X) → AllByRecursion (λ x. p x ≡ true) xs → list_all p xs ≡ true
 all_every p [] h = refl
 all_every p (x ∷ xs) h = and_from _ _ h.0 (all_every p xs h.1)
 

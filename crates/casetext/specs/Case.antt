@@ -1,6 +1,6 @@
 -- What the text of a case says: a game, a table of rows and its ranks, or the first fault.
 use Rattle.std.specs.Prelude.{ℕ, ◌+◌, Bool, cond, List, [], ◌∷◌, ◌++◌, map, length, Some, None, Ok, Err, Option, Result, nat_lt, slice_index, slice_index_or}
-use Rattle.regions.specs.declared.region.Ceilings.{Ceilings}
+use Rattle.regions.specs.Types.{Ceilings}
 use Rattle.game.specs.declared.parts.TimedPosition.{TimedPosition}
 use Rattle.game.specs.Game.{Game, game, start, keeps}
 use Rattle.table.specs.declared.row.Row as rows

@@ -5,11 +5,10 @@ use Rattle.std.specs.Str.{bytes_eq}
 use Rattle.arena.specs.declared.moves.Side.{Side}
 use Rattle.arena.specs.declared.moves.Side.TheVariants.{Us, Them}
 use Rattle.regions.specs.declared.region.ClockRegion.{ClockRegion}
-use Rattle.regions.specs.declared.region.Region.{Region}
+use Rattle.regions.specs.Types.{Region}
 use Rattle.game.specs.declared.bounds.Bounds.{Bounds}
-use Rattle.game.specs.declared.bounds.Zone.{Zone}
+use Rattle.game.specs.Types.{Zone, Resets}
 use Rattle.game.specs.declared.parts.Location.{Location}
-use Rattle.game.specs.declared.parts.Resets.{Resets}
 use Rattle.game.specs.declared.parts.Edge.{Edge}
 use Rattle.game.specs.declared.parts.TimedPosition.{TimedPosition}
 use Rattle.table.specs.declared.row.Row.{Row}

@@ -1,7 +1,7 @@
 -- The timed game keeps the laws of an arena.
 use Rattle.std.proofs.Common.{◌≡◌, ℕ, zero, suc, ◌<◌, ◌≤◌, Bool, true, false, cond, ◌&&◌, eqb, leb, List, [], ◌∷◌, map, length, Decides, refl, ap, ◌∙◌, subst, ap₂, inl, inr, arith}
 use lib.ListN.{length-map}
-use Rattle.std.specs.List.{slice_get}
+use Rattle.std.specs.List.{slice_get, list_all}
 use Rattle.std.proofs.ByRecursion.{All-map, All-weaker}
 use Rattle.std.proofs.lemmas.Option.{slice_get_past}
 use Rattle.std.proofs.lemmas.Bool.{cases_Bool, cases_lt, and_parts, leb-true}
@@ -9,10 +9,9 @@ use Rattle.std.proofs.lemmas.Bool.Decides.{nat_tests, Decides-eqb, Decides-and, 
 use Rattle.arena.specs.declared.moves.Side.TheVariants.{Us}
 use Rattle.clocks.specs.Regions.{Part}
 use Rattle.regions.specs.declared.region.ClockRegion.{ClockRegion}
-use Rattle.regions.specs.declared.region.Region.{Region}
-use Rattle.regions.specs.declared.region.Ceilings.{Ceilings}
+use Rattle.regions.specs.Types.{Region, Ceilings}
 use Rattle.regions.specs.Code as code
-use Rattle.regions.specs.Code.{parts, every}
+use Rattle.regions.specs.Code.{parts}
 use Rattle.game.specs.declared.parts.Location.{Location}
 use Rattle.game.specs.declared.parts.TimedPosition.{TimedPosition}
 use Rattle.game.specs.Game.{Game, Place, place, invariant_of, limits, keeps, owns, start, outcomes, suits, sound_location}
@@ -87,9 +86,9 @@ located g l r h = elim (cases_lt l (length g.locations)) [
       let z : ◌≡◌ {A = ℕ} 0 1 = cc in omega arith
 ]
 
-priorities : (c : Ceilings) (ls : List Location) (i : ℕ) → every (sound_location c) ls ≡ true → priority_of (slice_get ls i) ≤ 5
+priorities : (c : Ceilings) (ls : List Location) (i : ℕ) → list_all (sound_location c) ls ≡ true → priority_of (slice_get ls i) ≤ 5
 priorities c [] i h = omega arith
-priorities c (l ∷ ls) i h = let t = and_parts (sound_location c l) (every (sound_location c) ls) h in at i (and_parts (leb l.priority 5) (suits c l.invariant) t.0).0 (λ i. priorities c ls i t.1)
+priorities c (l ∷ ls) i h = let t = and_parts (sound_location c l) (list_all (sound_location c) ls) h in at i (and_parts (leb l.priority 5) (suits c l.invariant) t.0).0 (λ i. priorities c ls i t.1)
   where
     at : (i : ℕ) → leb l.priority 5 ≡ true → ((i : ℕ) → priority_of (slice_get ls i) ≤ 5) → priority_of (slice_get (l ∷ ls) i) ≤ 5
     at zero h k = leb-true l.priority 5 h

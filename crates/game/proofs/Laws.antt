@@ -14,7 +14,7 @@ use Rattle.regions.specs.Code.{is_own}
 use Rattle.regions.proofs.Owning.{own_from, own_to}
 use Rattle.game.specs.declared.bounds.Bound.{Bound}
 use Rattle.game.specs.declared.bounds.Bounds.{Bounds}
-use Rattle.game.specs.declared.bounds.Zone.{Zone}
+use Rattle.game.specs.Types.{Zone}
 use Rattle.game.specs.declared.parts.Location.{Location}
 use Rattle.game.specs.declared.parts.Edge.{Edge}
 use Rattle.game.specs.Intervals.{zone, meets_high, meets, holds}

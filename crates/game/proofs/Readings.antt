@@ -7,7 +7,7 @@ use Rattle.clocks.specs.Regions.{Clock, spot, seen, classed}
 use Rattle.clocks.proofs.Resets.{guards_stand}
 use Rattle.game.specs.declared.bounds.Bound.{Bound}
 use Rattle.game.specs.declared.bounds.Bounds.{Bounds}
-use Rattle.game.specs.declared.bounds.Zone.{Zone}
+use Rattle.game.specs.Types.{Zone}
 use Rattle.game.specs.Intervals.{reaches, inhabited, up_to, bounded, everywhere, fitting, meets_low, meets_high, meets, holds, inside_low, inside_high, inside, insides}
 use Rattle.game.specs.Game.{Game, suits}
 use Rattle.game.specs.Theorems.{Inhabited, bounded_by, Measured, Suited}

@@ -1,17 +1,17 @@
 -- A sound game taken apart.
 use Rattle.std.proofs.Common.{◌≡◌, ℕ, zero, suc, ◌≤◌, Bool, true, ◌&&◌, leb, List, [], ◌∷◌, length, Some, sym, ◌∙◌, arith}
 use mathlib.Core.Bool.{and_assoc}
-use Rattle.std.specs.List.{slice_get, AllByRecursion}
+use Rattle.std.specs.List.{slice_get, AllByRecursion, list_all}
 use Rattle.std.proofs.lemmas.Bool.{and_parts, leb-true, le-leb}
-use Rattle.regions.specs.Code.{every, ceiled}
+use Rattle.regions.specs.Code.{ceiled}
 use Rattle.game.specs.declared.parts.Edge.{Edge}
 use Rattle.game.specs.Game.{Game, owns, start, limits, in_turn, sound_location, sound_edge, sound}
 use Rattle.game.specs.Start.{well_made}
 
 -- what every element passes
-pub every_all : {X : Type 0} (p : X → Bool) (xs : List X) → every p xs ≡ true → AllByRecursion (λ x. p x ≡ true) xs
+pub every_all : {X : Type 0} (p : X → Bool) (xs : List X) → list_all p xs ≡ true → AllByRecursion (λ x. p x ≡ true) xs
 every_all p [] h = tt
-every_all p (x ∷ xs) h = let t = and_parts (p x) (every p xs) h in (t.0, every_all p xs t.1)
+every_all p (x ∷ xs) h = let t = and_parts (p x) (list_all p xs) h in (t.0, every_all p xs t.1)
 
 pub nth_all : {X : Type 0} (P : X → Type 0) (xs : List X) (i : ℕ) (x : X) → AllByRecursion P xs → slice_get xs i ≡ Some x → P x
 nth_all P [] i x h e = let z : ◌≡◌ {A = ℕ} 0 1 = cc in let n : ⊥ = omega arith in absurd n
@@ -27,15 +27,15 @@ pub record Made (g : Game) : Type 0 where
   pub low : ceiled g.ceilings ≡ true
   pub ordered : in_turn g.ceilings ≡ true
   pub few_locations : length g.locations ≤ 32
-  pub locations_sound : every (sound_location g.ceilings) g.locations ≡ true
+  pub locations_sound : list_all (sound_location g.ceilings) g.locations ≡ true
   pub few_edges : length g.edges ≤ 64
-  pub edges_sound : every (sound_edge g.ceilings (length g.locations)) g.edges ≡ true
+  pub edges_sound : list_all (sound_edge g.ceilings (length g.locations)) g.edges ≡ true
 
 pub made : (g : Game) → well_made g ≡ true → Made g
 made g h =
-    let e : Bool = every (sound_edge g.ceilings (length g.locations)) g.edges in
+    let e : Bool = list_all (sound_edge g.ceilings (length g.locations)) g.edges in
     let d : Bool = leb (length g.edges) 64 in
-    let c : Bool = every (sound_location g.ceilings) g.locations in
+    let c : Bool = list_all (sound_location g.ceilings) g.locations in
     let b : Bool = leb (length g.locations) 32 in
     let a : Bool = in_turn g.ceilings in
     let t = and_parts (ceiled g.ceilings) (a && (b && (c && (d && e)))) h in

@@ -1,11 +1,11 @@
 -- When the start is an own position.
 use Rattle.std.proofs.Common.{◌≡◌, ℕ, Bool, true, false, cond, not, ◌&&◌, ◌||◌, eqb, ltb, leb, List, [], ◌∷◌, Some, None, Option, sym, refl, ap, ◌∙◌, ap₂, inl, inr, arith}
 use mathlib.Core.Bool.{and-true}
-use Rattle.std.specs.List.{slice_get}
+use Rattle.std.specs.List.{slice_get, list_all}
 use Rattle.std.proofs.lemmas.Bool.{and_parts, cases_Bool, cases_eq}
 use Rattle.std.proofs.lemmas.Bool.Decides.{nat_tests}
 use Rattle.clocks.specs.Regions.{part}
-use Rattle.regions.specs.Code.{every, within, is_own}
+use Rattle.regions.specs.Code.{within, is_own}
 use Rattle.game.specs.declared.bounds.Bound.{Bound}
 use Rattle.game.specs.declared.bounds.Bounds.{Bounds}
 use Rattle.game.specs.declared.parts.Location.{Location}
@@ -62,10 +62,10 @@ meets_fresh c b h =
           ap (λ w. meets b (part c (cond w 1 0) 0)) i ∙ meets_zero c b.low b.high t.0
     ]
 
-keeps_start : (g : Game) (ls : List Location) → every (sound_location g.ceilings) ls ≡ true → invariant_of (slice_get ls 0) (start g).region ≡ starts_at_zero ls
+keeps_start : (g : Game) (ls : List Location) → list_all (sound_location g.ceilings) ls ≡ true → invariant_of (slice_get ls 0) (start g).region ≡ starts_at_zero ls
 keeps_start g [] h = refl
 keeps_start g (l ∷ ls) h =
-    let t = and_parts (sound_location g.ceilings l) (every (sound_location g.ceilings) ls) h in
+    let t = and_parts (sound_location g.ceilings l) (list_all (sound_location g.ceilings) ls) h in
     let u = suits_parts g l.invariant (and_parts (leb l.priority 5) (suits g.ceilings l.invariant) t.0).1 in
     ap₂ ◌&&◌ (meets_fresh g.ceilings.x l.invariant.x u.0)
     (ap₂ ◌&&◌ (meets_fresh g.ceilings.y l.invariant.y u.1)

@@ -1,16 +1,15 @@
 -- Timed games: own positions, legal moves of both sides, and the outcomes of a move of ours.
 use Rattle.std.specs.Prelude.{ℕ, zero, suc, Bool, true, false, cond, not, ◌&&◌, ◌||◌, List, [], ◌∷◌, ◌++◌, map, length, Some, None, Option, ◌==◌, nat_le, nat_lt}
-use Rattle.std.specs.List.{slice_get}
+use Rattle.std.specs.List.{slice_get, list_all}
 use Rattle.arena.specs.declared.moves.Side.{Side}
 use Rattle.arena.specs.declared.moves.Side.TheVariants.{Us, Them}
 use Rattle.arena.specs.declared.moves.Outcome.{Outcome}
 use Rattle.clocks.specs.Regions.{Part, part, ranked, waits, zeroed}
-use Rattle.regions.specs.declared.region.Ceilings.{Ceilings}
+use Rattle.regions.specs.Types.{Ceilings}
 use Rattle.regions.specs.Code as code
-use Rattle.regions.specs.Code.{every, is_own, ceiled}
-use Rattle.game.specs.declared.bounds.Zone.{Zone}
+use Rattle.regions.specs.Code.{is_own, ceiled}
+use Rattle.game.specs.Types.{Zone, Resets}
 use Rattle.game.specs.declared.parts.Location.{Location}
-use Rattle.game.specs.declared.parts.Resets.{Resets}
 use Rattle.game.specs.declared.parts.Edge.{Edge}
 use Rattle.game.specs.Intervals.{zone, fitting, holds}
 
@@ -185,7 +184,7 @@ sound g =
     ceiled g.ceilings
     && (in_turn g.ceilings
     && (nat_le (length g.locations) 32
-    && (every (sound_location g.ceilings) g.locations
+    && (list_all (sound_location g.ceilings) g.locations
     && (nat_le (length g.edges) 64
-    && (every (sound_edge g.ceilings (length g.locations)) g.edges
+    && (list_all (sound_edge g.ceilings (length g.locations)) g.edges
     && owns g (start g))))))

@@ -3,7 +3,7 @@ use Rattle.std.specs.Prelude.{ℕ, ◌*◌, Bool, true, false, not, ◌&&◌, �
 use Rattle.clocks.specs.Regions.{Part, Clock}
 use Rattle.game.specs.declared.bounds.Bound.{Bound}
 use Rattle.game.specs.declared.bounds.Bounds.{Bounds}
-use Rattle.game.specs.declared.bounds.Zone.{Zone}
+use Rattle.game.specs.Types.{Zone}
 
 abbrev pub zone : Zone → List Bounds
 zone z = z.x ∷ z.y ∷ z.z ∷ []

@@ -1,3 +1,4 @@
+pub mod Types
 pub mod Intervals
 pub mod Game
 pub mod Timed

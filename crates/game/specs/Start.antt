@@ -1,6 +1,7 @@
 -- What makes a game sound, its start apart, and when its start is an own position.
 use Rattle.std.specs.Prelude.{Bool, false, not, ◌&&◌, List, [], ◌∷◌, length, ◌==◌, nat_le}
-use Rattle.regions.specs.Code.{every, ceiled}
+use Rattle.std.specs.List.{list_all}
+use Rattle.regions.specs.Code.{ceiled}
 use Rattle.game.specs.declared.bounds.Bounds.{Bounds}
 use Rattle.game.specs.declared.parts.Location.{Location}
 use Rattle.game.specs.Game.{Game, in_turn, sound_location, sound_edge}
@@ -11,9 +12,9 @@ well_made g =
     ceiled g.ceilings
     && (in_turn g.ceilings
     && (nat_le (length g.locations) 32
-    && (every (sound_location g.ceilings) g.locations
+    && (list_all (sound_location g.ceilings) g.locations
     && (nat_le (length g.edges) 64
-    && every (sound_edge g.ceilings (length g.locations)) g.edges))))
+    && list_all (sound_edge g.ceilings (length g.locations)) g.edges))))
 
 -- the lower end is a closed 0
 abbrev pub from_zero : Bounds → Bool

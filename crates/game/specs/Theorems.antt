@@ -4,7 +4,7 @@ use Rattle.arena.specs.declared.moves.Side.{Side}
 use Rattle.arena.specs.declared.moves.Side.TheVariants.{Them}
 use Rattle.clocks.specs.Regions.{Clock, Part, region_of, waits}
 use Rattle.game.specs.declared.bounds.Bounds.{Bounds}
-use Rattle.game.specs.declared.bounds.Zone.{Zone}
+use Rattle.game.specs.Types.{Zone}
 use Rattle.game.specs.Intervals.{zone, inhabited, bounded, holds, inside, insides}
 use Rattle.game.specs.Game.{Game, Place, place, limits, owns, welcome, legal, result_of, their_edge, ours_at, outcomes, suits, sound}
 use Rattle.game.specs.Start.{well_made, starts_at_zero}

@@ -6,7 +6,7 @@ use Rattle.arena.specs.declared.moves.Side.TheVariants.{Us}
 use Rattle.arena.specs.declared.moves.Outcome.{Outcome}
 use Rattle.clocks.specs.Regions.{Part}
 use Rattle.regions.specs.declared.region.ClockRegion.{ClockRegion}
-use Rattle.regions.specs.declared.region.Region.{Region}
+use Rattle.regions.specs.Types.{Region}
 use Rattle.regions.specs.Code.{parts}
 use Rattle.game.specs.declared.parts.Location.{Location}
 use Rattle.game.specs.declared.parts.TimedPosition.{TimedPosition}

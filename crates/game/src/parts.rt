@@ -1,6 +1,7 @@
 //! What a timed game is made of, and its positions.
 use crate::bounds::Zone;
 use arena::moves::Side;
+use regions::per_clock::PerClock;
 use regions::region::Region;
 
 /// A location: clocks may stay in it while they keep its invariant.
@@ -11,12 +12,7 @@ pub struct Location {
 }
 
 /// The clocks that an edge resets.
-#[derive(Clone, Copy)]
-pub struct Resets {
-    pub x: bool,
-    pub y: bool,
-    pub z: bool,
-}
+pub type Resets = PerClock<bool>;
 
 /// An edge of one side: it may be taken where its guard is met.
 #[derive(Clone, Copy)]
@@ -29,7 +25,7 @@ pub struct Edge {
 }
 
 /// A position: a location and a region.
-#[derive(Clone, Copy)]
+#[derive(Clone, Copy, PartialEq, Eq)]
 pub struct TimedPosition {
     pub location: u8,
     pub region: Region,

@@ -6,7 +6,7 @@ use Rattle.clocks.specs.Regions.{Part, Clock, clock, part, spot, seen, ranked, r
 use Rattle.clocks.proofs.Lists.{map_ext}
 use Rattle.clocks.proofs.Main.{scales_stand, holds_stand, delays_stand}
 use Rattle.clocks.proofs.Resets.{guards_stand, restarts_stand}
-use Rattle.regions.specs.declared.region.Restart.{Restart}
+use Rattle.regions.specs.Types.{Restart}
 use Rattle.regions.specs.Code as code
 use Rattle.regions.specs.Code.{tick_ceiling, ceiled, flags}
 use Rattle.readings.specs.declared.scaled.Readings.{Readings}

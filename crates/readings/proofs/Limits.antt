@@ -2,10 +2,11 @@
 use Rattle.std.proofs.Common.{◌≡◌, ℕ, ◌+◌, ◌*◌, ◌^◌, ◌<◌, ◌≤◌, true, ◌&&◌, ltb, leb, List, [], ◌∷◌, refl, ap, ◌∙◌, mul-le-mul_right, mul-le-mul_left, mul-pos, mul_left_comm, arith}
 use Rattle.std.proofs.lemmas.Bool.{and_parts, and_from, leb-true, le-leb, lt-ltb}
 use Rattle.std.proofs.lemmas.Bool.Decides.{nat_tests}
+use Rattle.std.specs.List.{list_all}
 use Rattle.clocks.specs.Regions.{Clock, finer}
-use Rattle.regions.specs.declared.region.Ceilings.{Ceilings}
-use Rattle.regions.specs.Code.{every, ceiled}
-use Rattle.readings.specs.declared.grains.Grains.{Grains}
+use Rattle.regions.specs.Types.{Ceilings}
+use Rattle.regions.specs.Code.{ceiled}
+use Rattle.readings.specs.Types.{Grains}
 use Rattle.readings.specs.declared.scaled.Readings.{Readings}
 use Rattle.readings.specs.Grains.{clocks_at, is_held, is_scale, readable}
 use Rattle.readings.specs.View.{clocks_of}
@@ -51,12 +52,12 @@ units_fit c D low fine =
 finer_held : (k c D x : ℕ) → x ≤ (c + 1) * D → k * x ≤ (c + 1) * (k * D)
 finer_held k c D x h = let a : k * x ≤ k * ((c + 1) * D) = mul-le-mul_left k h in omega (arith, mul_left_comm k (c + 1) D)
 
-finer_every : (k D : ℕ) (xs : List Clock) → every (is_held D) xs ≡ true → every (is_held (k * D)) (finer k xs) ≡ true
+finer_every : (k D : ℕ) (xs : List Clock) → list_all (is_held D) xs ≡ true → list_all (is_held (k * D)) (finer k xs) ≡ true
 finer_every k D [] h = refl
 finer_every k D (x ∷ xs) h =
-    let t = and_parts (is_held D x) (every (is_held D) xs) h in
+    let t = and_parts (is_held D x) (list_all (is_held D) xs) h in
     let one = finer_held k x.ceiling D x.reading (leb-true x.reading ((x.ceiling + 1) * D) t.0) in
-    and_from _ (every (is_held (k * D)) (finer k xs)) (le-leb (k * x.reading) ((x.ceiling + 1) * (k * D)) one) (finer_every k D xs t.1)
+    and_from _ (list_all (is_held (k * D)) (finer k xs)) (le-leb (k * x.reading) ((x.ceiling + 1) * (k * D)) one) (finer_every k D xs t.1)
 
 module _ (k : ℕ) (r : Readings) where
   pub scale_fits : k ≤ 1000 → k * r.scale < 2 ^ 32
@@ -70,9 +71,9 @@ module _ (k : ℕ) (r : Readings) where
     finer_readable g some e =
         let D = r.scale in
         let l = limits r in
-        let t = and_parts (ceiled r.ceilings) (is_scale D && every (is_held D) (clocks_of r)) r.ok in
-        let u = and_parts (is_scale D) (every (is_held D) (clocks_of r)) t.1 in
+        let t = and_parts (ceiled r.ceilings) (is_scale D && list_all (is_held D) (clocks_of r)) r.ok in
+        let u = and_parts (is_scale D) (list_all (is_held D) (clocks_of r)) t.1 in
         let v : is_scale (k * D) ≡ true = and_from (ltb 0 (k * D)) (leb (k * D) 1000000) (lt-ltb 0 (k * D) (mul-pos some l.some)) (le-leb (k * D) 1000000 fine) in
-        let w : every (is_held (k * D)) (clocks_at r.ceilings g) ≡ true = ap (every (is_held (k * D))) e ∙ finer_every k D (clocks_of r) u.1 in
-        and_from (ceiled r.ceilings) (is_scale (k * D) && every (is_held (k * D)) (clocks_at r.ceilings g)) t.0
-        (and_from (is_scale (k * D)) (every (is_held (k * D)) (clocks_at r.ceilings g)) v w)
+        let w : list_all (is_held (k * D)) (clocks_at r.ceilings g) ≡ true = ap (list_all (is_held (k * D))) e ∙ finer_every k D (clocks_of r) u.1 in
+        and_from (ceiled r.ceilings) (is_scale (k * D) && list_all (is_held (k * D)) (clocks_at r.ceilings g)) t.0
+        (and_from (is_scale (k * D)) (list_all (is_held (k * D)) (clocks_at r.ceilings g)) v w)

@@ -3,7 +3,7 @@ use Rattle.std.proofs.Common.{◌≡◌, ℕ, true, false, is_some, None, sym, a
 use Rattle.std.proofs.lemmas.Bool.{and_parts, and_from}
 use Rattle.clocks.specs.Regions.{Own}
 use Rattle.clocks.proofs.Main.{owned_stand}
-use Rattle.regions.specs.declared.region.Region.{Region}
+use Rattle.regions.specs.Types.{Region}
 use Rattle.regions.specs.declared.standing.Clocks.{Clocks}
 use Rattle.regions.specs.Code.{parts, ceiled, is_own, proper}
 use Rattle.regions.specs.Standing.{standing}

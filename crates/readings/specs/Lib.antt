@@ -1,3 +1,4 @@
+pub mod Types
 pub mod Grains
 pub mod Spotted
 pub mod View

@@ -1,10 +1,10 @@
 -- Units and grains as a list of clocks, the tick clock last.
 use Rattle.std.specs.Prelude.{ℕ, List, [], ◌∷◌}
 use Rattle.clocks.specs.Regions.{Part, part}
-use Rattle.regions.specs.declared.region.Ceilings.{Ceilings}
+use Rattle.regions.specs.Types.{Ceilings}
 use Rattle.regions.specs.Code.{tick_ceiling}
 use Rattle.readings.specs.declared.spots.Spot.{Spot}
-use Rattle.readings.specs.declared.spots.Spots.{Spots}
+use Rattle.readings.specs.Types.{Spots}
 
 abbrev pub part_at : ℕ → Spot → Part
 part_at c s = part c s.whole s.rest

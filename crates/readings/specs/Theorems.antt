@@ -1,8 +1,7 @@
 -- What holds of readings at a scale, and of their regions.
 use Rattle.std.specs.Prelude.{◌≡◌, ℕ, ◌+◌, ◌*◌, cond, map, Some, ◌==◌, nat_le, nat_lt}
 use Rattle.clocks.specs.Regions.{part, region_of, waits, later, ranked, zeroed}
-use Rattle.regions.specs.declared.region.Ceilings.{Ceilings}
-use Rattle.regions.specs.declared.region.Restart.{Restart}
+use Rattle.regions.specs.Types.{Ceilings, Restart}
 use Rattle.regions.specs.declared.standing.Clocks.{Clocks}
 use Rattle.regions.specs.Code.{limits, flags}
 use Rattle.regions.specs.Standing.{standing}

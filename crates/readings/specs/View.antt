@@ -2,7 +2,7 @@
 use Rattle.std.specs.Prelude.{ℕ, ◌*◌, Bool, cond, ◌&&◌, List, map, Some, None, Option, ◌==◌, nat_le}
 use Rattle.clocks.specs.Regions.{Clock, Part, clock, region_of, later, finer, restarted}
 use Rattle.clocks.specs.Theorems.{held}
-use Rattle.regions.specs.declared.region.Ceilings.{Ceilings}
+use Rattle.regions.specs.Types.{Ceilings}
 use Rattle.regions.specs.Code.{limits, ceiled}
 use Rattle.readings.specs.declared.scaled.Readings.{Readings}
 use Rattle.readings.specs.Grains.{clocks_at}

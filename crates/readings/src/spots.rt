@@ -1,11 +1,12 @@
 //! Readings as units and grains, and the classes of the grains.
 ghost use Rattle.std.specs.Prelude.{◌≡◌, ◌<◌, ◌≤◌, not, ◌&&◌, nat_lt};
 ghost use Rattle.clocks.specs.Regions.{clock, part, spot, seen, rank, ranked};
-ghost use Rattle.regions.specs.declared.region.Ceilings.{Ceilings};
+ghost use Rattle.regions.specs.Types.{Ceilings};
 ghost use Rattle.regions.specs.Code.{parts};
 ghost use Rattle.readings.specs.Spotted.{spotted, unceiled};
 
 use regions::region::{ClockRegion, Region};
+use regions::with_tick::WithTick;
 
 /// A reading as whole units and the grains that remain. Past its ceiling a clock stands one unit
 /// above it.
@@ -13,14 +14,6 @@ use regions::region::{ClockRegion, Region};
 pub(crate) struct Spot {
     pub(crate) whole: u8,
     pub(crate) rest: u32,
-}
-
-#[derive(Clone, Copy)]
-pub(crate) struct Spots {
-    pub(crate) x: Spot,
-    pub(crate) y: Spot,
-    pub(crate) z: Spot,
-    pub(crate) tick: Spot,
 }
 
 impl Spot {
@@ -52,42 +45,28 @@ fn counts(rest: u32, other: u32, is_counted: bool) -> bool
     0 < rest && rest < other && !is_counted
 }
 
-impl Spots {
-    /// The class of a remainder: 0 for zero, else 1 plus the number of different smaller ones that
-    /// are not zero.
-    fn class(self, rest: u32) -> u8
-        ensures { result ≡ rank (seen (unceiled self)) rest }
-    {
-        if rest == 0 {
-            return 0;
-        }
-        let (x, y, z, tick) = (self.x.rest, self.y.rest, self.z.rest, self.tick.rest);
-        let tick_counts = counts(tick, rest, false);
-        let z_counts = counts(z, rest, tick == z);
-        let y_counts = counts(y, rest, z == y || tick == y);
-        let x_counts = counts(x, rest, y == x || z == x || tick == x);
-        1 + tick_counts as u8 + z_counts as u8 + y_counts as u8 + x_counts as u8
+/// The class of a remainder among those of these clocks: 0 for zero, else 1 plus the number of
+/// different smaller ones that are not zero.
+fn class_of(rest: u32, spots: WithTick<Spot>) -> u8
+    ensures { result ≡ rank (seen (unceiled spots)) rest }
+{
+    if rest == 0 {
+        return 0;
     }
+    let (x, y, z, tick) = (spots.x.rest, spots.y.rest, spots.z.rest, spots.tick.rest);
+    let tick_counts = counts(tick, rest, false);
+    let z_counts = counts(z, rest, tick == z);
+    let y_counts = counts(y, rest, z == y || tick == y);
+    let x_counts = counts(x, rest, y == x || z == x || tick == x);
+    1 + tick_counts as u8 + z_counts as u8 + y_counts as u8 + x_counts as u8
+}
 
-    /// One of these as part of a region.
-    fn ranked(self, spot: Spot) -> ClockRegion
-        ensures { result ≡ record { whole = spot.whole; class = rank (seen (unceiled self)) spot.rest } }
-    {
-        ClockRegion {
-            whole: spot.whole,
-            class: self.class(spot.rest),
-        }
-    }
-
-    /// Their region, whatever the ceilings.
-    pub(crate) fn region(self) -> Region
-        ensures { (c : Ceilings) → parts c result ≡ ranked (spotted c self) }
-    {
-        Region {
-            x: self.ranked(self.x),
-            y: self.ranked(self.y),
-            z: self.ranked(self.z),
-            tick: self.ranked(self.tick),
-        }
-    }
+/// The region of these clocks, whatever their ceilings.
+pub(crate) fn region_of(spots: WithTick<Spot>) -> Region
+    ensures { (c : Ceilings) → parts c result ≡ ranked (spotted c spots) }
+{
+    spots.map(|spot| ClockRegion {
+        whole: spot.whole,
+        class: class_of(spot.rest, spots),
+    })
 }

@@ -1,6 +1,6 @@
 -- What a region of its clocks has, as a test and as a fact.
 use Rattle.std.proofs.Common.{◌≡◌, ℕ, zero, suc, ◌+◌, ◌<◌, ◌≤◌, Bool, true, cond, eqb, ◌⊎◌, List, [], ◌∷◌, Some, sym, refl, ap, ◌∙◌, inl, inr, add-one, arith}
-use Rattle.std.specs.List.{AllByRecursion}
+use Rattle.std.specs.List.{AllByRecursion, list_all}
 use Rattle.std.proofs.lemmas.Bool.{cases_order, cases_Bool, and_parts, and_from, eq-eqb, eqb-true}
 use Rattle.std.proofs.lemmas.Bool.Decides.{nat_tests}
 use Rattle.clocks.specs.Regions.{Part, seen, top, upto, next, ranked, zeroed, Within, Own}
@@ -8,9 +8,8 @@ use Rattle.clocks.proofs.Main.{kept_stand, fresh_stand}
 use Rattle.clocks.proofs.Owns.{upto_own}
 use Rattle.clocks.proofs.Counts.{upto_le}
 use Rattle.clocks.proofs.Measures.{few_stand}
-use Rattle.regions.specs.declared.region.Ceilings.{Ceilings}
-use Rattle.regions.specs.declared.region.Region.{Region}
-use Rattle.regions.specs.Code.{parts, every, within, is_own, ceiled, proper, Smalls}
+use Rattle.regions.specs.Types.{Ceilings, Region}
+use Rattle.regions.specs.Code.{parts, within, is_own, ceiled, proper, Smalls}
 
 within_from : (p : Part) → within p ≡ true → Within p
 within_from p h = (grind (arith, nat_tests), λ k. grind (arith, nat_tests))
@@ -18,13 +17,13 @@ within_from p h = (grind (arith, nat_tests), λ k. grind (arith, nat_tests))
 within_to : (p : Part) → Within p → within p ≡ true
 within_to p h = grind (arith, nat_tests)
 
-every_from : (r : List Part) → every within r ≡ true → AllByRecursion Within r
+every_from : (r : List Part) → list_all within r ≡ true → AllByRecursion Within r
 every_from [] h = tt
-every_from (p ∷ r) h = let t = and_parts (within p) (every within r) h in (within_from p t.0, every_from r t.1)
+every_from (p ∷ r) h = let t = and_parts (within p) (list_all within r) h in (within_from p t.0, every_from r t.1)
 
-every_to : (r : List Part) → AllByRecursion Within r → every within r ≡ true
+every_to : (r : List Part) → AllByRecursion Within r → list_all within r ≡ true
 every_to [] h = refl
-every_to (p ∷ r) h = and_from (within p) (every within r) (within_to p h.0) (every_to r h.1)
+every_to (p ∷ r) h = and_from (within p) (list_all within r) (within_to p h.0) (every_to r h.1)
 
 upto_full : (f : ℕ → Bool) (n : ℕ) → upto f n ≡ n → (v : ℕ) → 0 < v → v ≤ n → f v ≡ true
 upto_full f zero e v z l = let w : ⊥ = omega arith in absurd w
@@ -42,12 +41,12 @@ upto_full f (suc n) e v z l = elim (cases_Bool (f (suc n))) [
 
 pub own_from : (r : List Part) → is_own r ≡ true → Own r
 own_from r h =
-    let t = and_parts (every within r) (eqb (upto (seen r) (top r)) (top r)) h in
+    let t = and_parts (list_all within r) (eqb (upto (seen r) (top r)) (top r)) h in
     record { within = every_from r t.0; gapless = upto_full (seen r) (top r) (eqb-true (upto (seen r) (top r)) (top r) t.1) }
 
 pub own_to : (r : List Part) → Own r → is_own r ≡ true
 own_to r h =
-    and_from (every within r) (eqb (upto (seen r) (top r)) (top r)) (every_to r h.within)
+    and_from (list_all within r) (eqb (upto (seen r) (top r)) (top r)) (every_to r h.within)
     (eq-eqb (upto (seen r) (top r)) (top r) (upto_own (seen r) (top r) h.gapless))
 
 -- one more class looked at

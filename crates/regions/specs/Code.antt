@@ -1,10 +1,9 @@
 -- The program's regions as lists of clocks, the tick clock last.
-use Rattle.std.specs.Prelude.{ℕ, ◌+◌, ◌≤◌, Bool, true, ◌&&◌, ◌||◌, List, [], ◌∷◌, ◌==◌, nat_le, nat_lt}
+use Rattle.std.specs.Prelude.{ℕ, ◌+◌, ◌≤◌, Bool, ◌&&◌, ◌||◌, List, [], ◌∷◌, ◌==◌, nat_le, nat_lt}
+use Rattle.std.specs.List.{list_all}
 use Rattle.clocks.specs.Regions.{Part, part, seen, upto, top}
 use Rattle.regions.specs.declared.region.ClockRegion.{ClockRegion}
-use Rattle.regions.specs.declared.region.Ceilings.{Ceilings}
-use Rattle.regions.specs.declared.region.Region.{Region}
-use Rattle.regions.specs.declared.region.Restart.{Restart}
+use Rattle.regions.specs.Types.{Ceilings, Region, Restart}
 
 abbrev pub part_of : ℕ → ClockRegion → Part
 part_of c m = part c m.whole m.class
@@ -26,21 +25,17 @@ limits c = c.x ∷ c.y ∷ c.z ∷ tick_ceiling ∷ []
 abbrev pub flags : Restart → List Bool
 flags b = b.x ∷ b.y ∷ b.z ∷ b.tick ∷ []
 
-abbrev pub every : {X : Type 0} → (X → Bool) → List X → Bool
-every p [] = true
-every p (x ∷ xs) = p x && every p xs
-
 -- a whole part is at most one past the ceiling, and a positive class stands only below it
 abbrev pub within : Part → Bool
 within p = nat_le p.whole (p.ceiling + 1) && (p.rest == 0 || nat_lt p.whole p.ceiling)
 
 -- the parts are those of a region: classes run from 1 without a gap
 abbrev pub is_own : List Part → Bool
-is_own r = every within r && upto (seen r) (top r) == top r
+is_own r = list_all within r && upto (seen r) (top r) == top r
 
 -- no ceiling is above 15 units
 abbrev pub ceiled : Ceilings → Bool
-ceiled c = every (λ u. nat_le u 15) (limits c)
+ceiled c = list_all (λ u. nat_le u 15) (limits c)
 
 -- the whole parts and classes are those of a region of clocks with these ceilings
 abbrev pub proper : Ceilings → Region → Bool

@@ -1,2 +1,3 @@
+pub mod Types
 pub mod Code
 pub mod Standing

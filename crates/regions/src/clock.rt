@@ -1,7 +1,8 @@
 //! Ceilings, one clock's part in a region, and the classes of all.
 ghost use Rattle.std.specs.Prelude.{◌≡◌, ◌+◌, ◌≤◌, if◌then◌else◌, ◌==◌};
-ghost use Rattle.clocks.specs.Regions.{resting, rising, leave, seen, upto, rank, top};
-ghost use Rattle.regions.specs.Code.{part_of, unceiled, within, ceiled, Small};
+ghost use Rattle.clocks.specs.Regions.{resting, rising, leave, seen, upto, rank, ranked, top};
+ghost use Rattle.regions.specs.Types.{Ceilings};
+ghost use Rattle.regions.specs.Code.{part_of, parts, unceiled, within, ceiled, Small};
 
 use crate::region::{Ceilings, ClockRegion, HIGHEST_CEILING, Region};
 
@@ -83,7 +84,7 @@ impl Ceilings {
     pub fn are_allowed(self) -> bool
         ensures { result ≡ ceiled self }
     {
-        self.x <= HIGHEST_CEILING && self.y <= HIGHEST_CEILING && self.z <= HIGHEST_CEILING
+        self.map(|ceiling| ceiling <= HIGHEST_CEILING).all()
     }
 }
 
@@ -92,10 +93,7 @@ impl Region {
     fn has_class(self, class: u8) -> bool
         ensures { result ≡ seen (unceiled self) class }
     {
-        self.x.class == class
-            || self.y.class == class
-            || self.z.class == class
-            || self.tick.class == class
+        self.map(|at| at.class == class).any()
     }
 
     /// The highest class of all clocks.
@@ -133,5 +131,12 @@ impl Region {
             class: self.classes_up_to(clock.class - 1) + 1,
             ..clock
         }
+    }
+
+    /// The region with all classes closed up.
+    pub(crate) fn closed_up(self) -> Region
+        ensures { (c : Ceilings) → parts c result ≡ ranked (parts c self) }
+    {
+        self.map(|at| self.close_up(at))
     }
 }

@@ -2,5 +2,7 @@
 #![tactic(auto)]
 
 mod clock;
+pub mod per_clock;
 pub mod region;
 pub mod standing;
+pub mod with_tick;

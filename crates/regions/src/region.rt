@@ -1,4 +1,6 @@
 //! Where clocks stand.
+use crate::per_clock::PerClock;
+use crate::with_tick::WithTick;
 
 /// The highest ceiling that a clock may have.
 pub const HIGHEST_CEILING: u8 = 15;
@@ -7,7 +9,7 @@ pub const HIGHEST_CEILING: u8 = 15;
 pub const TICK_CEILING: u8 = 1;
 
 /// Where one clock stands: its whole part, and its class, which orders the fractions.
-#[derive(Clone, Copy)]
+#[derive(Clone, Copy, PartialEq, Eq)]
 pub struct ClockRegion {
     pub whole: u8,
     pub class: u8,
@@ -15,27 +17,10 @@ pub struct ClockRegion {
 
 /// Where all clocks stand. A clock that the game does not have has ceiling 0 and stands past it,
 /// at whole part 1.
-#[derive(Clone, Copy)]
-pub struct Region {
-    pub x: ClockRegion,
-    pub y: ClockRegion,
-    pub z: ClockRegion,
-    pub tick: ClockRegion,
-}
+pub type Region = WithTick<ClockRegion>;
 
 /// The ceilings of a game's clocks, 0 for one that it does not have. The tick clock's is 1.
-#[derive(Clone, Copy)]
-pub struct Ceilings {
-    pub x: u8,
-    pub y: u8,
-    pub z: u8,
-}
+pub type Ceilings = PerClock<u8>;
 
 /// Which clocks go back to zero.
-#[derive(Clone, Copy)]
-pub struct Restart {
-    pub x: bool,
-    pub y: bool,
-    pub z: bool,
-    pub tick: bool,
-}
+pub type Restart = WithTick<bool>;

@@ -1,8 +1,8 @@
 //! Rows of bounds that nobody has checked.
 ghost use Rattle.std.specs.Prelude.{◌≡◌, Some};
-ghost use Rattle.game.specs.Intervals.{inhabited, reaches, bounded, everywhere, fitting};
+ghost use Rattle.game.specs.Intervals.{inhabited, reaches, bounded, fitting};
 
-use game::bounds::{Bound, Bounds};
+use game::bounds::{Bound, Bounds, EVERYWHERE};
 
 /// Whether some reading is between the two ends.
 fn reaches(low: Bound, high: Bound) -> bool
@@ -15,28 +15,14 @@ fn reaches(low: Bound, high: Bound) -> bool
 pub fn is_inhabited(bounds: Bounds) -> bool
     ensures { result ≡ inhabited bounds }
 {
-    match bounds.high {
-        None => true,
-        Some(high) => reaches(bounds.low, high),
-    }
+    bounds.high.is_none_or(|high| reaches(bounds.low, high))
 }
 
 /// Whether no bound is above the ceiling.
 pub fn is_bounded(bounds: Bounds, ceiling: u8) -> bool
     ensures { result ≡ bounded ceiling bounds }
 {
-    bounds.low.at <= ceiling
-        && match bounds.high {
-            None => true,
-            Some(high) => high.at <= ceiling,
-        }
-}
-
-/// Whether the bounds are `[0,-)`.
-fn is_everywhere(bounds: Bounds) -> bool
-    ensures { result ≡ everywhere bounds }
-{
-    bounds.low.at == 0 && !bounds.low.open && bounds.high.is_none()
+    bounds.low.at <= ceiling && bounds.high.is_none_or(|high| high.at <= ceiling)
 }
 
 /// Whether these are bounds of an interval for a clock with this ceiling. A clock that is not
@@ -44,5 +30,5 @@ fn is_everywhere(bounds: Bounds) -> bool
 pub fn is_fitting(bounds: Bounds, ceiling: u8) -> bool
     ensures { result ≡ fitting ceiling bounds }
 {
-    is_inhabited(bounds) && is_bounded(bounds, ceiling) && (ceiling > 0 || is_everywhere(bounds))
+    is_inhabited(bounds) && is_bounded(bounds, ceiling) && (ceiling > 0 || bounds == EVERYWHERE)
 }

@@ -53,10 +53,8 @@ impl Interval {
     fn is_passed(self, clock: ClockRegion) -> bool
         ensures { result ≡ not (meets_high self.bounds.high (stands clock)) }
     {
-        match self.bounds.high {
-            None => false,
-            Some(high) => is_above(clock, high.at) || high.open && is_at(clock, high.at),
-        }
+        self.bounds.high.is_some_and(|high| is_above(clock, high.at)
+            || high.open && is_at(clock, high.at))
     }
 
     /// Whether the clock stands in the interval.

@@ -1,12 +1,11 @@
 //! Whether a game's tables are sound.
 ghost use Rattle.std.specs.Prelude.{◌≡◌};
-ghost use Rattle.regions.specs.Code.{every};
+ghost use Rattle.std.specs.List.{list_all};
 ghost use Rattle.game.specs.Game.{game, sound, suits, resetting, in_turn, sound_location, sound_edge};
 ghost use Rattle.game.specs.Start.{well_made, from_zero, starts_at_zero};
 
 use crate::bounds::is_fitting;
-use crate::items::item_at;
-use game::bounds::{Bounds, Zone};
+use game::bounds::{Bounds, ZERO, Zone};
 use game::parts::{Edge, Location, Resets};
 use regions::region::Ceilings;
 
@@ -30,14 +29,19 @@ fn is_in_turn(c: Ceilings) -> bool
 fn is_suited(rows: Zone, c: Ceilings) -> bool
     ensures { result ≡ suits c rows }
 {
-    is_fitting(rows.x, c.x) && is_fitting(rows.y, c.y) && is_fitting(rows.z, c.z)
+    rows.zip(c)
+        .map(|(bounds, ceiling)| is_fitting(bounds, ceiling))
+        .all()
 }
 
 /// Whether no clock is reset that is not there.
 fn is_resetting(resets: Resets, c: Ceilings) -> bool
     ensures { result ≡ resetting c resets }
 {
-    (c.x > 0 || !resets.x) && (c.y > 0 || !resets.y) && (c.z > 0 || !resets.z)
+    resets
+        .zip(c)
+        .map(|(is_reset, ceiling)| ceiling > 0 || !is_reset)
+        .all()
 }
 
 /// Whether priority and invariant are within the rules.
@@ -59,44 +63,34 @@ fn is_sound_edge(edge: Edge, c: Ceilings, locations: usize) -> bool
 
 /// Whether all locations are within the rules.
 fn are_sound_locations(locations: &[Location], c: Ceilings) -> bool
-    ensures { result ≡ every (sound_location c) locations.now }
+    ensures { result ≡ list_all (sound_location c) locations.now }
 {
-    for location in locations {
-        if !is_sound_location(*location, c) {
-            return false;
-        }
-    }
-    true
+    locations
+        .iter()
+        .all(|location| is_sound_location(*location, c))
 }
 
 /// Whether all edges are within the rules.
 fn are_sound_edges(edges: &[Edge], c: Ceilings, locations: usize) -> bool
-    ensures { result ≡ every (sound_edge c locations) edges.now }
+    ensures { result ≡ list_all (sound_edge c locations) edges.now }
 {
-    for edge in edges {
-        if !is_sound_edge(*edge, c, locations) {
-            return false;
-        }
-    }
-    true
+    edges.iter().all(|edge| is_sound_edge(*edge, c, locations))
 }
 
 /// Whether the lower end is a closed 0.
 fn is_from_zero(row: Bounds) -> bool
     ensures { result ≡ from_zero row }
 {
-    row.low.at == 0 && !row.low.open
+    row.low == ZERO
 }
 
 /// Whether there is a location 0, and all clocks may be at zero in it.
 fn starts_at_zero(locations: &[Location]) -> bool
     ensures { result ≡ starts_at_zero locations.now }
 {
-    let Some(first) = item_at(locations, 0) else {
-        return false;
-    };
-    let rows = first.invariant;
-    is_from_zero(rows.x) && is_from_zero(rows.y) && is_from_zero(rows.z)
+    locations
+        .first()
+        .is_some_and(|first| first.invariant.map(is_from_zero).all())
 }
 
 /// Whether ceilings, locations and edges keep the rules, wherever the start is.

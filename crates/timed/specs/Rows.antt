@@ -1,6 +1,6 @@
 -- Rows of a game's tables that have been checked.
 use Rattle.std.specs.Prelude.{Bool, ◌&&◌}
-use Rattle.game.specs.declared.bounds.Zone.{Zone}
+use Rattle.game.specs.Types.{Zone}
 use Rattle.game.specs.Intervals.{inhabited}
 
 -- each interval contains a reading

@@ -1,17 +1,19 @@
 //! Readings that begin and change, and the region that they stand in.
 ghost use Rattle.std.specs.Prelude.{◌≡◌, ◌+◌, ◌*◌, ◌≤◌, min, map, if◌then◌else◌, nat_eq, nat_le};
 ghost use Rattle.std.specs.Option.{option_map};
-ghost use Rattle.clocks.specs.Regions.{spot};
-ghost use Rattle.regions.specs.Code.{flags};
+ghost use Rattle.clocks.specs.Regions.{spot, finer};
+ghost use Rattle.regions.specs.Code.{flags, tick_ceiling};
 ghost use Rattle.regions.specs.Standing.{standing};
+ghost use Rattle.readings.specs.Grains.{clocks_at};
 ghost use Rattle.readings.specs.Spotted.{spotted};
 ghost use Rattle.readings.specs.View.{clocks_of, view, begun, refined, delayed, reset, region_in};
 
 use super::Readings;
 use crate::grains::Grains;
-use crate::spots::{Spot, Spots};
+use crate::spots::{Spot, region_of};
 use regions::region::{Ceilings, Restart, TICK_CEILING};
 use regions::standing::Clocks;
+use regions::with_tick::WithTick;
 
 /// The finest scale, in grains to the unit.
 pub const FINEST_SCALE: u32 = 1_000_000;
@@ -47,13 +49,16 @@ impl Readings {
         Some(Readings {
             ceilings,
             scale: 1,
-            grains: Grains {
-                x: first_reading(ceilings.x),
-                y: first_reading(ceilings.y),
-                z: first_reading(ceilings.z),
-                tick: 0,
-            },
+            grains: ceilings.map(first_reading).with_tick(0),
         })
+    }
+
+    /// What the clocks read in grains that are finer by this factor.
+    fn finer_grains(self, factor: u32) -> Grains
+        requires { factor * self.scale ≤ 1000000 }
+        ensures { clocks_at self.ceilings result ≡ finer factor (clocks_of self) }
+    {
+        self.grains.map(|reading| factor * reading)
     }
 
     /// The same readings at a scale that is finer by this factor. None if the factor or the new
@@ -68,12 +73,22 @@ impl Readings {
         if scale > FINEST_SCALE {
             return None;
         }
-        let grains = self.grains.finer(factor);
+        let grains = self.finer_grains(factor);
         Some(Readings {
             ceilings: self.ceilings,
             scale,
             grains,
         })
+    }
+
+    /// Each clock's ceiling, and what it reads.
+    fn clocks(self) -> WithTick<(u8, u32)>
+        ensures x { result.x ≡ (self.ceilings.x, self.grains.x) }
+        ensures y { result.y ≡ (self.ceilings.y, self.grains.y) }
+        ensures z { result.z ≡ (self.ceilings.z, self.grains.z) }
+        ensures tick { result.tick ≡ (tick_ceiling, self.grains.tick) }
+    {
+        self.ceilings.with_tick(TICK_CEILING).zip(self.grains)
     }
 
     /// The most that a clock with this ceiling reads: one unit above it.
@@ -96,15 +111,11 @@ impl Readings {
     pub fn later(self, delay: u32) -> Readings
         ensures { view result ≡ delayed delay (view self) }
     {
-        let (c, at) = (self.ceilings, self.grains);
-        let grains = Grains {
-            x: self.later_reading(c.x, at.x, delay),
-            y: self.later_reading(c.y, at.y, delay),
-            z: self.later_reading(c.z, at.z, delay),
-            tick: self.later_reading(TICK_CEILING, at.tick, delay),
-        };
+        let grains = self.clocks().map(|(ceiling, reading)| self.later_reading(
+            ceiling, reading, delay,
+        ));
         Readings {
-            ceilings: c,
+            ceilings: self.ceilings,
             scale: self.scale,
             grains,
         }
@@ -114,13 +125,10 @@ impl Readings {
     pub fn restart(self, restart: Restart) -> Readings
         ensures { view result ≡ reset (flags restart) (view self) }
     {
-        let at = self.grains;
-        let grains = Grains {
-            x: restarted_reading(at.x, restart.x),
-            y: restarted_reading(at.y, restart.y),
-            z: restarted_reading(at.z, restart.z),
-            tick: restarted_reading(at.tick, restart.tick),
-        };
+        let grains = self
+            .grains
+            .zip(restart)
+            .map(|(reading, restarts)| restarted_reading(reading, restarts));
         Readings {
             ceilings: self.ceilings,
             scale: self.scale,
@@ -136,23 +144,17 @@ impl Readings {
     }
 
     /// The readings as units and grains.
-    fn spots(self) -> Spots
+    fn spots(self) -> WithTick<Spot>
         ensures { spotted self.ceilings result ≡ map (spot self.scale) (clocks_of self) }
     {
-        let (c, at) = (self.ceilings, self.grains);
-        Spots {
-            x: Spot::new(c.x, self.scale, at.x),
-            y: Spot::new(c.y, self.scale, at.y),
-            z: Spot::new(c.z, self.scale, at.z),
-            tick: Spot::new(TICK_CEILING, self.scale, at.tick),
-        }
+        self.clocks().map(|(ceiling, reading)| Spot::new(ceiling, self.scale, reading))
     }
 
     /// The clocks in the region of their readings.
     pub fn region(self) -> Clocks
         ensures { standing result ≡ region_in (view self) }
     {
-        let region = self.spots().region();
+        let region = region_of(self.spots());
         let Some(clocks) = Clocks::new(self.ceilings, region) else {
             unreachable()
         };

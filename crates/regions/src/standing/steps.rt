@@ -1,22 +1,23 @@
 //! From region to region.
-ghost use Rattle.std.specs.Prelude.{◌≡◌, true, is_some, IfSome, nat_lt};
+ghost use Rattle.std.specs.Prelude.{◌≡◌, true, map, is_some, IfSome, nat_lt};
 ghost use Rattle.std.specs.Option.{option_map};
-ghost use Rattle.clocks.specs.Regions.{some, resting, rising, ranked, zeroed, next, waits};
-ghost use Rattle.regions.specs.Code.{parts, flags, proper, is_own, Smalls};
+ghost use Rattle.clocks.specs.Regions.{some, resting, rising, leave, ranked, zeroed, next, waits};
+ghost use Rattle.regions.specs.Code.{parts, tick_ceiling, flags, proper, is_own, Smalls};
 ghost use Rattle.regions.specs.Standing.{standing};
 
 use super::Clocks;
-use crate::region::{Ceilings, Region, Restart, TICK_CEILING};
+use crate::region::{Ceilings, ClockRegion, Region, Restart, TICK_CEILING};
+use crate::with_tick::WithTick;
 
 /// Whether whole parts and classes are those of a region of clocks with these ceilings.
 fn is_own(c: Ceilings, region: Region) -> bool
     ensures { result ≡ is_own (parts c region) }
 {
     let highest = region.highest_class();
-    region.x.is_within(c.x)
-        && region.y.is_within(c.y)
-        && region.z.is_within(c.z)
-        && region.tick.is_within(TICK_CEILING)
+    c.with_tick(TICK_CEILING)
+        .zip(region)
+        .map(|(ceiling, at)| at.is_within(ceiling))
+        .all()
         && region.classes_up_to(highest) == highest
 }
 
@@ -40,26 +41,41 @@ impl Clocks {
         self.region.tick.whole > 0
     }
 
+    /// Each clock's ceiling, and where it stands.
+    fn parts(self) -> WithTick<(u8, ClockRegion)>
+        ensures x { result.x ≡ (self.ceilings.x, self.region.x) }
+        ensures y { result.y ≡ (self.ceilings.y, self.region.y) }
+        ensures z { result.z ≡ (self.ceilings.z, self.region.z) }
+        ensures tick { result.tick ≡ (tick_ceiling, self.region.tick) }
+    {
+        self.ceilings.with_tick(TICK_CEILING).zip(self.region)
+    }
+
     /// Whether some clock is not past, at class 0.
     fn some_rest(self) -> bool
         ensures { result ≡ some resting (standing self) }
     {
-        let (c, at) = (self.ceilings, self.region);
-        at.x.is_resting(c.x)
-            || at.y.is_resting(c.y)
-            || at.z.is_resting(c.z)
-            || at.tick.is_resting(TICK_CEILING)
+        self.parts()
+            .map(|(ceiling, at)| at.is_resting(ceiling))
+            .any()
     }
 
     /// Whether some clock is below its ceiling, at class 0.
     fn some_rise(self) -> bool
         ensures { result ≡ some rising (standing self) }
     {
-        let (c, at) = (self.ceilings, self.region);
-        at.x.is_rising(c.x)
-            || at.y.is_rising(c.y)
-            || at.z.is_rising(c.z)
-            || at.tick.is_rising(TICK_CEILING)
+        self.parts()
+            .map(|(ceiling, at)| at.is_rising(ceiling))
+            .any()
+    }
+
+    /// The region once the clocks at class 0 have left their whole parts.
+    fn left_region(self) -> Region
+        requires { Smalls self.ceilings self.region }
+        ensures { parts self.ceilings result ≡ map (leave (some rising (standing self))) (standing self) }
+    {
+        let rise = self.some_rise();
+        self.parts().map(|(ceiling, at)| at.leave(ceiling, rise))
     }
 
     /// The next region, if there is one.
@@ -67,26 +83,14 @@ impl Clocks {
         requires { Smalls self.ceilings self.region }
         ensures { option_map (parts self.ceilings) result ≡ next (standing self) }
     {
-        let (c, at) = (self.ceilings, self.region);
         if self.some_rest() {
-            let rise = self.some_rise();
-            return Some(Region {
-                x: at.x.leave(c.x, rise),
-                y: at.y.leave(c.y, rise),
-                z: at.z.leave(c.z, rise),
-                tick: at.tick.leave(TICK_CEILING, rise),
-            });
+            return Some(self.left_region());
         }
-        let highest = at.highest_class();
+        let highest = self.region.highest_class();
         if highest == 0 {
             return None;
         }
-        Some(Region {
-            x: at.x.arrive(highest),
-            y: at.y.arrive(highest),
-            z: at.z.arrive(highest),
-            tick: at.tick.arrive(highest),
-        })
+        Some(self.region.map(|at| at.arrive(highest)))
     }
 
     /// The clocks in the next region. The last region, where all are past, has none.
@@ -115,13 +119,9 @@ impl Clocks {
     fn zeroed_region(self, restart: Restart) -> Region
         ensures { parts self.ceilings result ≡ zeroed (flags restart) (standing self) }
     {
-        let at = self.region;
-        Region {
-            x: at.x.restart(restart.x),
-            y: at.y.restart(restart.y),
-            z: at.z.restart(restart.z),
-            tick: at.tick.restart(restart.tick),
-        }
+        self.region
+            .zip(restart)
+            .map(|(at, restarts)| at.restart(restarts))
     }
 
     /// The region once these clocks have gone back to zero.
@@ -129,13 +129,7 @@ impl Clocks {
         ensures own { proper self.ceilings result ≡ true }
         ensures is { parts self.ceilings result ≡ ranked (zeroed (flags restart) (standing self)) }
     {
-        let at = self.zeroed_region(restart);
-        Region {
-            x: at.close_up(at.x),
-            y: at.close_up(at.y),
-            z: at.close_up(at.z),
-            tick: at.close_up(at.tick),
-        }
+        self.zeroed_region(restart).closed_up()
     }
 
     /// The clocks once these have gone back to zero, with their classes closed up.

@@ -5,8 +5,8 @@ use Rattle.readings.proofs.scaled.Readings.region.Goals as goal
 
 pub unreachable-requires : goal.unreachable-requires
 unreachable-requires c =
-    read_made c.args.self c.region-region.result (c.region-region.ensures c.args.self.ceilings ∙ ap ranked c.spots.ensures) c.in_default.ensures.test
+    read_made c.args.self c.region_of-region.result (c.region_of-region.ensures c.args.self.ceilings ∙ ap ranked c.spots.ensures) c.in_default.ensures.test
 
 pub returns : goal.returns
 returns c =
-    read_stands c.args.self c.region-region.result (c.region-region.ensures c.args.self.ceilings ∙ ap ranked c.spots.ensures) c.in-Some.clocks c.in-Some.ensures.fields
+    read_stands c.args.self c.region_of-region.result (c.region_of-region.ensures c.args.self.ceilings ∙ ap ranked c.spots.ensures) c.in-Some.clocks c.in-Some.ensures.fields

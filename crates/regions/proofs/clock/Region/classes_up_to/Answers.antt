@@ -3,7 +3,7 @@ use Rattle.clocks.specs.Regions.{seen}
 use Rattle.clocks.proofs.Counts.{upto_le}
 use Rattle.regions.specs.Code.{unceiled}
 use Rattle.regions.proofs.Owning.{upto_more}
-use Rattle.regions.proofs.region.Region.classes_up_to.Goals as goal
+use Rattle.regions.proofs.clock.Region.classes_up_to.Goals as goal
 
 pub overflow_add-count : goal.overflow_add-count
 overflow_add-count c = omega (arith, upto_le (seen (unceiled c.args.self)) c.loop-below.below)

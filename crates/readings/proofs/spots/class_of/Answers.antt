@@ -1,11 +1,11 @@
 use Rattle.std.proofs.Common.{◌≡◌, false, ◌||◌, eqb, ap, ◌∙◌, rules}
 use Rattle.readings.specs.Spotted.{part_at}
 use Rattle.readings.proofs.Classes.{counted, four}
-use Rattle.readings.proofs.spots.Spots.class.Goals as goal
+use Rattle.readings.proofs.spots.class_of.Goals as goal
 
 pub returns : goal.returns
 returns c =
-    let s = c.args.self in
+    let s = c.args.spots in
     let v = c.args.rest in
     let ys : c.if-z-y.counts ≡ eqb s.z.rest s.y.rest || (eqb s.tick.rest s.y.rest || false) = search rules in
     let xs : c.if-z-x.counts ≡ eqb s.y.rest s.x.rest || (eqb s.z.rest s.x.rest || (eqb s.tick.rest s.x.rest || false)) = search rules in
