@@ -3,12 +3,12 @@ ghost use Rattle.std.specs.Prelude.{◌≡◌, ◌<◌, ◌≤◌};
 ghost use Rattle.casetext.specs.Text.{fields};
 ghost use Rattle.casetext.specs.Items.{bounds, zone, location, side, reset_at, resets, edge, clock_at, clock_of, region, row, ranks};
 
-use crate::fields::nth_field;
 use crate::interval::read_interval;
 use crate::limits::{
     MAX_CLASS, MAX_EDGE, MAX_LOCATION, MAX_PRIORITY, MAX_RANK, MAX_STEPS, MAX_WHOLE,
 };
-use crate::text::{byte_at, read_number, small_value_of, value_of};
+use crate::line::Line;
+use crate::text::{byte_at, read_number};
 use arena::moves::{Move, Side};
 use casetext::ranks::Ranks;
 use game::bounds::{Bound, Bounds, Zone};
@@ -30,28 +30,6 @@ fn bounds_of(field: &[u8]) -> Bounds
     ensures { result ≡ bounds field.now }
 {
     read_interval(field).unwrap_or(EVERYTHING)
-}
-
-/// One interval for each clock, from field i on.
-fn zone_of(line: &[u8], i: usize) -> Zone
-    requires { i ≤ 5 }
-    ensures { result ≡ zone i (fields line.now) }
-{
-    Zone {
-        x: bounds_of(nth_field(line, i)),
-        y: bounds_of(nth_field(line, i + 1)),
-        z: bounds_of(nth_field(line, i + 2)),
-    }
-}
-
-/// The location of a `loc` line.
-pub(crate) fn location_of(line: &[u8]) -> Location
-    ensures { result ≡ location (fields line.now) }
-{
-    Location {
-        priority: small_value_of(nth_field(line, 1), MAX_PRIORITY),
-        invariant: zone_of(line, 2),
-    }
 }
 
 /// Whose edge it is.
@@ -82,82 +60,114 @@ fn resets_of(letters: &[u8]) -> Resets
     }
 }
 
-/// The edge of an `edge` line.
-pub(crate) fn edge_of(line: &[u8]) -> Edge
-    ensures { result ≡ edge (fields line.now) }
-{
-    Edge {
-        side: side_of(nth_field(line, 1)),
-        from: small_value_of(nth_field(line, 2), MAX_LOCATION),
-        to: small_value_of(nth_field(line, 3), MAX_LOCATION),
-        resets: resets_of(nth_field(line, 4)),
-        guard: zone_of(line, 5),
+impl Line<'_> {
+    /// One interval for each clock, from field i on.
+    fn zone(&self, i: usize) -> Zone
+        requires { i ≤ 5 }
+        ensures { result ≡ zone i (fields self.now.bytes.now) }
+    {
+        Zone {
+            x: bounds_of(self.field(i)),
+            y: bounds_of(self.field(i + 1)),
+            z: bounds_of(self.field(i + 2)),
+        }
+    }
+
+    /// The location of a `loc` line.
+    pub(crate) fn location(&self) -> Location
+        ensures { result ≡ location (fields self.now.bytes.now) }
+    {
+        Location {
+            priority: self.small_value(1, MAX_PRIORITY),
+            invariant: self.zone(2),
+        }
+    }
+
+    /// The edge of an `edge` line.
+    pub(crate) fn edge(&self) -> Edge
+        ensures { result ≡ edge (fields self.now.bytes.now) }
+    {
+        Edge {
+            side: side_of(self.field(1)),
+            from: self.small_value(2, MAX_LOCATION),
+            to: self.small_value(3, MAX_LOCATION),
+            resets: resets_of(self.field(4)),
+            guard: self.zone(5),
+        }
+    }
+
+    /// Where a clock stands, by two fields from i on.
+    fn clock(&self, i: usize) -> ClockRegion
+        requires { i ≤ 9 }
+        ensures { result ≡ clock_at i (fields self.now.bytes.now) }
+    {
+        ClockRegion {
+            whole: self.small_value(i, MAX_WHOLE),
+            class: self.small_value(i + 1, MAX_CLASS),
+        }
     }
 }
 
-/// Where a clock stands, by two fields from i on.
-fn clock_at(line: &[u8], i: usize) -> ClockRegion
-    requires { i ≤ 9 }
-    ensures { result ≡ clock_at i (fields line.now) }
-{
-    ClockRegion {
-        whole: small_value_of(nth_field(line, i), MAX_WHOLE),
-        class: small_value_of(nth_field(line, i + 1), MAX_CLASS),
-    }
+/// A `row` line of a game with so many clocks.
+#[derive(Clone, Copy)]
+pub(crate) struct RowLine<'a> {
+    pub(crate) line: Line<'a>,
+    pub(crate) clocks: usize,
+    ghost few: { clocks ≤ 3 },
 }
 
-/// Where the i-th of so many clocks stands.
-fn clock_of(line: &[u8], clocks: usize, i: usize) -> ClockRegion
-    requires { i < 3 }
-    ensures { result ≡ clock_of clocks i (fields line.now) }
-{
-    if i < clocks {
-        clock_at(line, 3 + 2 * i)
-    } else {
-        ABSENT
+impl RowLine<'_> {
+    /// Where the i-th clock stands.
+    fn clock(&self, i: usize) -> ClockRegion
+        requires { i < 3 }
+        ensures { result ≡ clock_of self.now.clocks i (fields self.now.line.bytes.now) }
+    {
+        if i < self.clocks {
+            self.line.clock(3 + 2 * i)
+        } else {
+            ABSENT
+        }
     }
-}
 
-/// Where so many clocks and the tick clock stand.
-fn region_of(line: &[u8], clocks: usize) -> Region
-    requires { clocks ≤ 3 }
-    ensures { result ≡ region clocks (fields line.now) }
-{
-    Region {
-        x: clock_of(line, clocks, 0),
-        y: clock_of(line, clocks, 1),
-        z: clock_of(line, clocks, 2),
-        tick: clock_at(line, 3 + 2 * clocks),
+    /// Where the clocks and the tick clock stand.
+    fn region(&self) -> Region
+        ensures { result ≡ region self.now.clocks (fields self.now.line.bytes.now) }
+    {
+        Region {
+            x: self.clock(0),
+            y: self.clock(1),
+            z: self.clock(2),
+            tick: self.line.clock(3 + 2 * self.clocks),
+        }
     }
-}
 
-/// A row of a game with so many clocks.
-pub(crate) fn row_of(line: &[u8], clocks: usize) -> Row<TimedPosition>
-    requires { clocks ≤ 3 }
-    ensures { result ≡ row clocks (fields line.now) }
-{
-    Row {
-        position: TimedPosition {
-            location: small_value_of(nth_field(line, 1), MAX_LOCATION),
-            region: region_of(line, clocks),
-        },
-        latch: small_value_of(nth_field(line, 2), MAX_PRIORITY),
-        choice: Move {
-            steps: small_value_of(nth_field(line, 5 + 2 * clocks), MAX_STEPS),
-            edge: read_number(nth_field(line, 6 + 2 * clocks), 0, MAX_EDGE),
-        },
+    /// The row.
+    pub(crate) fn row(&self) -> Row<TimedPosition>
+        ensures { result ≡ row self.now.clocks (fields self.now.line.bytes.now) }
+    {
+        Row {
+            position: TimedPosition {
+                location: self.line.small_value(1, MAX_LOCATION),
+                region: self.region(),
+            },
+            latch: self.line.small_value(2, MAX_PRIORITY),
+            choice: Move {
+                steps: self.line.small_value(5 + 2 * self.clocks, MAX_STEPS),
+                edge: read_number(self.line.field(6 + 2 * self.clocks), 0, MAX_EDGE),
+            },
+        }
     }
-}
 
-/// The ranks of such a row.
-pub(crate) fn ranks_of(line: &[u8], clocks: usize) -> Ranks
-    requires { clocks ≤ 3 }
-    ensures { result ≡ ranks clocks (fields line.now) }
-{
-    Ranks {
-        one: value_of(nth_field(line, 7 + 2 * clocks), MAX_RANK),
-        three: value_of(nth_field(line, 8 + 2 * clocks), MAX_RANK),
-        five: value_of(nth_field(line, 9 + 2 * clocks), MAX_RANK),
-        seven: value_of(nth_field(line, 10 + 2 * clocks), MAX_RANK),
+    /// Its ranks.
+    pub(crate) fn ranks(&self) -> Ranks
+        ensures { result ≡ ranks self.now.clocks (fields self.now.line.bytes.now) }
+    {
+        let i = 7 + 2 * self.clocks;
+        Ranks {
+            one: self.line.value(i, MAX_RANK),
+            three: self.line.value(i + 1, MAX_RANK),
+            five: self.line.value(i + 2, MAX_RANK),
+            seven: self.line.value(i + 3, MAX_RANK),
+        }
     }
 }

@@ -4,12 +4,12 @@
 pub mod case;
 mod columns;
 mod draft;
-mod fields;
 mod form;
 mod interval;
 mod item;
 mod layout;
 mod limits;
+mod line;
 mod lines;
 pub mod reader;
 pub mod room;

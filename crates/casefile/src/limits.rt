@@ -3,11 +3,6 @@ pub(crate) const MAX_TEXT: usize = 65536;
 
 pub(crate) const MAX_CLOCKS: usize = 3;
 
-pub(crate) const MAX_LOCATIONS: usize = 32;
-
-pub(crate) const MAX_EDGES: usize = 64;
-
-pub(crate) const MAX_ROWS: usize = 1024;
 /// Four to a row.
 pub(crate) const MAX_RANKS: usize = 4096;
 

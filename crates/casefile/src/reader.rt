@@ -11,7 +11,6 @@ use crate::case::{Case, ReadError};
 use crate::columns::fill_columns;
 use crate::draft::Draft;
 use crate::limits::MAX_TEXT;
-use crate::lines::read_lines;
 use crate::room::Room;
 use crate::text::byte_at;
 use casetext::fault::TextFault;
@@ -44,14 +43,13 @@ fn finish(draft: Draft) -> Result<Case, TextFault>
         mut columns,
     } = draft;
     fill_columns(&mut columns, ranks.as_slice());
-    match TimedGame::new(all_ceilings(ceilings.as_slice()), locations, edges) {
-        Some(game) => Ok(Case {
-            game,
-            rows,
-            ranks: columns,
-        }),
-        None => Err(TextFault::NoStart),
-    }
+    let ceilings = all_ceilings(ceilings.as_slice());
+    let game = TimedGame::new(ceilings, locations, edges).ok_or(TextFault::NoStart)?;
+    Ok(Case {
+        game,
+        rows,
+        ranks: columns,
+    })
 }
 
 /// The case that the text holds, or its first fault. Everything that is read is sound, and every
@@ -64,7 +62,7 @@ pub fn read_into(room: Room, text: &[u8]) -> Result<Case, TextFault>
         return Err(TextFault::TooLong);
     }
     let Room { mut draft } = room;
-    read_lines(&mut draft, text)?;
+    draft.read_lines(text)?;
     finish(draft)
 }
 

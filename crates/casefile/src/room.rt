@@ -2,8 +2,10 @@
 ghost use Rattle.std.specs.Prelude.{◌≡◌, vec_len};
 
 use crate::draft::Draft;
-use crate::limits::{MAX_CLOCKS, MAX_EDGES, MAX_LOCATIONS, MAX_RANKS, MAX_ROWS};
+use crate::limits::{MAX_CLOCKS, MAX_RANKS};
+use soundness::tables::{MOST_EDGES, MOST_LOCATIONS};
 use std::alloc::{AllocError, Global};
+use table::row::MAX_ROWS;
 
 /// Memory for the largest case that a text may hold, with nothing in it.
 #[derive(Drop)]
@@ -20,8 +22,8 @@ impl Room {
     pub fn take(heap: Global) -> Result<Room, AllocError> {
         let draft = Draft {
             ceilings: Vec::with_capacity(heap, MAX_CLOCKS)?,
-            locations: Vec::with_capacity(heap, MAX_LOCATIONS)?,
-            edges: Vec::with_capacity(heap, MAX_EDGES)?,
+            locations: Vec::with_capacity(heap, MOST_LOCATIONS)?,
+            edges: Vec::with_capacity(heap, MOST_EDGES)?,
             rows: Vec::with_capacity(heap, MAX_ROWS)?,
             ranks: Vec::with_capacity(heap, MAX_ROWS)?,
             columns: Vec::with_capacity(heap, MAX_RANKS)?,

@@ -1,8 +1,7 @@
 //! Parts a text, and reads the numbers in it.
-ghost use Rattle.std.specs.Prelude.{◌≡◌, ◌<◌, ◌≤◌, slice_index};
+ghost use Rattle.std.specs.Prelude.{◌≡◌, slice_index};
 ghost use Rattle.std.specs.Option.{option_map};
 ghost use Rattle.casetext.specs.Text.{number, before, behind};
-ghost use Rattle.casetext.specs.Items.{value};
 
 /// The decimal number from `low` to `high` that the field is. Digits go on for as long as they
 /// like: reading ends where the number passes `high`.
@@ -23,22 +22,6 @@ pub(crate) fn read_number(field: &[u8], low: u16, high: u16) -> Option<u16>
         }
     }
     (u32::from(low) <= n).then_some(n as u16)
-}
-
-/// The number up to a limit that the field is, or 0.
-pub(crate) fn value_of(field: &[u8], limit: u16) -> u16
-    ensures value { result ≡ value limit field.now }
-    ensures limited { result ≤ limit }
-{
-    read_number(field, 0, limit).unwrap_or(0)
-}
-
-/// The same for numbers below 256.
-pub(crate) fn small_value_of(field: &[u8], limit: u16) -> u8
-    requires { limit < 256 }
-    ensures { result ≡ value limit field.now }
-{
-    value_of(field, limit) as u8
 }
 
 /// The i-th byte from 0, or 0 where there is none.

@@ -6,5 +6,5 @@ use Rattle.casefile.proofs.lines.line_fault.Given as goal
 
 abbrev pub invariant-loop-i : goal.invariant-loop-i
 invariant-loop-i l =
-    wrongs l.number 1 (forms (said l.draft) l.kind) (fields l.line)
-    ≡ lesser l.least (wrongs l.number (l.i + 1) (drop l.i (forms (said l.draft) l.kind)) (drop l.i (fields l.line)))
+    wrongs l.line.number 1 (forms (said l.draft) l.kind) (fields l.line.bytes.now)
+    ≡ lesser l.least (wrongs l.line.number (l.i + 1) (drop l.i (forms (said l.draft) l.kind)) (drop l.i (fields l.line.bytes.now)))

@@ -17,7 +17,7 @@ returns-in_err-read_lines c =
 
 pub returns : goal.returns
 returns c =
-    let s = said c.read_lines.new.draft in
+    let s = said c.read_lines.new.self in
     let from = ap (λ s. read_lines 0 (Ok s) (lines c.args.text.now)) (nothing_yet c.args.room) in
     let value = c.finish.ensures ∙ sym (read_said c.args.text.now s (omega arith) (sym (c.in_ok-read_lines.ensures ∙ from))) in
     record { value = value; sound = sound_when c.args.text.now c.finish.result value }

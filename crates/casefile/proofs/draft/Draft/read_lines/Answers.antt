@@ -6,8 +6,8 @@ use Rattle.casetext.specs.Case.{read_lines}
 use Rattle.casetext.proofs.Reading.{next_line, no_line, now_or}
 use Rattle.casetext.proofs.Splits.{before_short, line_shorter}
 use Rattle.casefile.specs.Draft.{said}
-use Rattle.casefile.proofs.lines.read_lines.Goals as goal
-use Rattle.casefile.proofs.lines.read_lines.Goals.{After-unwrap_or-rest}
+use Rattle.casefile.proofs.draft.Draft.read_lines.Goals as goal
+use Rattle.casefile.proofs.draft.Draft.read_lines.Goals.{After-unwrap_or-rest}
 
 pub read_line-requires : goal.read_line-requires
 read_line-requires c = omega (arith, ap length c.cut.ensures.front, before_short line_feed c.loop-rest.rest.now)
@@ -15,7 +15,7 @@ read_line-requires c = omega (arith, ap length c.cut.ensures.front, before_short
 pub returns-in_err-read_line : goal.returns-in_err-read_line
 returns-in_err-read_line c =
     let p = err_from_is_err_and c.from_residual.result c.from_residual.ensures.1 in
-    rw (p.1, p.2) (sym (c.loop-rest.invariant.1 ∙ next_line c.loop-rest.number (said c.loop-rest.draft) c.loop-rest.rest.now c.cut.result.0.now (option_map (λ x. x.now) c.cut.result.1) (Err c.in_err-read_line.field-0.0) (omega (arith, false-eqb _ 0 c.loop-rest-test.ensures)) c.cut.ensures.front c.cut.ensures.rest c.in_err-read_line.ensures))
+    rw (p.1, p.2) (sym (c.loop-rest.invariant.1 ∙ next_line c.loop-rest.number (said c.loop-rest.self) c.loop-rest.rest.now c.cut.result.0.now (option_map (λ x. x.now) c.cut.result.1) (Err c.in_err-read_line.field-0.0) (omega (arith, false-eqb _ 0 c.loop-rest-test.ensures)) c.cut.ensures.front c.cut.ensures.rest c.in_err-read_line.ensures))
 
 some_left : (c : After-unwrap_or-rest) → 0 < length c.loop-rest.rest.now
 some_left c = omega (arith, false-eqb _ 0 c.loop-rest-test.ensures)
@@ -32,9 +32,9 @@ loop-rest-smaller c = shorter c
 pub loop-rest-preserved : goal.loop-rest-preserved
 loop-rest-preserved c = (
   omega (arith, shorter c),
-  c.loop-rest.invariant.1 ∙ next_line c.loop-rest.number (said c.loop-rest.draft) c.loop-rest.rest.now c.cut.result.0.now (option_map (λ x. x.now) c.cut.result.1) (Ok (said c.read_line.new.draft)) (some_left c) c.cut.ensures.front c.cut.ensures.rest c.in_ok-read_line.ensures
-      ∙ ap (λ x. read_lines (c.loop-rest.number + 1) (Ok (said c.read_line.new.draft)) (lines x)) (sym (rest_is c)),
+  c.loop-rest.invariant.1 ∙ next_line c.loop-rest.number (said c.loop-rest.self) c.loop-rest.rest.now c.cut.result.0.now (option_map (λ x. x.now) c.cut.result.1) (Ok (said c.read_line.new.self)) (some_left c) c.cut.ensures.front c.cut.ensures.rest c.in_ok-read_line.ensures
+      ∙ ap (λ x. read_lines (c.loop-rest.number + 1) (Ok (said c.read_line.new.self)) (lines x)) (sym (rest_is c)),
 )
 
 pub returns : goal.returns
-returns c = sym (c.loop-rest.invariant.1 ∙ no_line c.loop-rest.number (said c.loop-rest.draft) c.loop-rest.rest.now (true-eqb _ 0 c.loop-rest-test.ensures))
+returns c = sym (c.loop-rest.invariant.1 ∙ no_line c.loop-rest.number (said c.loop-rest.self) c.loop-rest.rest.now (true-eqb _ 0 c.loop-rest-test.ensures))
