@@ -25,9 +25,10 @@ fn step(
 }
 
 fn write_tally(rt: &HostRuntime, tally: Tally) -> io::Result<()> {
+    let counts = tally.counts;
     println!(rt;
         "rounds {}, tallies {} {} {} {}",
-        tally.rounds, tally.one, tally.three, tally.five, tally.seven
+        tally.rounds, counts.one, counts.three, counts.five, counts.seven
     )
 }
 

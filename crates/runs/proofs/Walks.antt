@@ -7,6 +7,7 @@ use Rattle.arena.specs.declared.moves.Outcome.{Outcome}
 use Rattle.table.specs.declared.row.Row.{Row}
 use Rattle.table.specs.declared.fault.Fault.{Fault}
 use Rattle.table.specs.declared.fault.Fault.TheVariants.{NoOutcome, TooManyRounds}
+use Rattle.table.specs.Odd.{odd, for_each}
 use Rattle.table.specs.Colours.{colour_of, latch_after}
 use Rattle.table.specs.Rows.{first_row, outcomes_of}
 use Rattle.table.specs.Ranks.{rank_of}
@@ -55,7 +56,7 @@ module _ {P : Type 0} (m : Meaning P) (ok : Lawful m) (rows : List (Row P)) (ran
       let c = colour_of (last_latch m past) o in
       let cs = colours m past in
       let r : length past + 1 ≡ length (o ∷ past) = omega arith in
-      λ i. record { rounds = r i; one = counts 1 c cs i; three = counts 3 c cs i; five = counts 5 c cs i; seven = counts 7 c cs i }
+      λ i. record { rounds = r i; counts = for_each (λ p. counts (odd p) c cs i) }
 
   good_round : (h : History P) (g : Good h) (i : ℕ) (o : Outcome P) → slice_get (outcomes_of m g.row) i ≡ Some o →
       Good (record { walk = moved m h.walk o; past = o ∷ h.past })

@@ -2,6 +2,7 @@
 use Rattle.std.specs.Prelude.{ℕ, ◌+◌, cond, List, [], ◌∷◌, length, ◌==◌, nat_lt}
 use Rattle.arena.specs.Meaning.{Meaning}
 use Rattle.arena.specs.declared.moves.Outcome.{Outcome}
+use Rattle.table.specs.Odd.{odd, for_each}
 use Rattle.table.specs.Colours.{colour_of, latch_after}
 use Rattle.runs.specs.declared.state.Tally.{Tally}
 
@@ -33,11 +34,4 @@ module _ {P : Type 0} (m : Meaning P) where
   colours (o ∷ past) = colour_of (last_latch past) o ∷ colours past
 
   abbrev pub counted : List (Outcome P) → Tally
-  counted past =
-      record {
-        rounds = length past;
-        one = tally_of 1 (colours past);
-        three = tally_of 3 (colours past);
-        five = tally_of 5 (colours past);
-        seven = tally_of 7 (colours past);
-      }
+  counted past = record { rounds = length past; counts = for_each (λ p. tally_of (odd p) (colours past)) }

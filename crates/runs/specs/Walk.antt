@@ -6,6 +6,7 @@ use Rattle.arena.specs.declared.moves.Outcome.{Outcome}
 use Rattle.table.specs.declared.row.Row.{Row}
 use Rattle.table.specs.declared.fault.Fault.{Fault}
 use Rattle.table.specs.declared.fault.Fault.TheVariants.{TooManyRows, NoRowHere, IllegalHere, NoOutcome, TooManyRounds}
+use Rattle.table.specs.Odd.{odd, at, for_each}
 use Rattle.table.specs.Colours.{colour_of, latch_after}
 use Rattle.table.specs.Rows.{first_row, outcomes_of}
 use Rattle.runs.specs.declared.state.State.{State}
@@ -17,7 +18,7 @@ new_walk m =
     record {
       position = m.start;
       latch = m.priority m.start;
-      tally = record { rounds = 0; one = 0; three = 0; five = 0; seven = 0 };
+      tally = record { rounds = 0; counts = for_each (λ _. 0) };
     }
 
 -- the tally of p after a round of colour c: a larger colour clears it
@@ -25,14 +26,7 @@ abbrev pub tallied : ℕ → ℕ → ℕ → ℕ
 tallied p c n = cond (nat_lt p c) 0 (cond (p == c) (n + 1) n)
 
 abbrev pub tally_after : ℕ → Tally → Tally
-tally_after c t =
-    record {
-      rounds = t.rounds + 1;
-      one = tallied 1 c t.one;
-      three = tallied 3 c t.three;
-      five = tallied 5 c t.five;
-      seven = tallied 7 c t.seven;
-    }
+tally_after c t = record { rounds = t.rounds + 1; counts = for_each (λ p. tallied (odd p) c (at p t.counts)) }
 
 -- a walk after a round with this outcome
 abbrev pub moved : {P : Type 0} → Meaning P → State P → Outcome P → State P

@@ -16,3 +16,7 @@ at One xs = xs.one
 at Three xs = xs.three
 at Five xs = xs.five
 at Seven xs = xs.seven
+
+-- what a function gives for each colour
+abbrev pub for_each : {T : Type 0} → (OddColour → T) → PerColour T
+for_each f = record { one = f One; three = f Three; five = f Five; seven = f Seven }

@@ -1,5 +1,4 @@
 //! Walks along a table, one round at a time.
 #![tactic(auto)]
 
-mod find;
 pub mod walk;

@@ -1,12 +1,16 @@
 //! A walk and its calls.
 ghost use Rattle.std.specs.Prelude.{◌≡◌, ◌<◌, ◌≤◌, true, is_ok, Some};
-ghost use Rattle.runs.specs.Walk.{new_walk, tallied, moved, chosen_by, taken, answered, moved_by, reading};
+ghost use Rattle.std.specs.Option.{option_map};
+ghost use Rattle.table.specs.declared.odd.OddColour.{OddColour};
+ghost use Rattle.table.specs.Odd.{odd, at};
+ghost use Rattle.walk.specs.declared.walk.TheConstants.{MAX_ROUNDS};
+ghost use Rattle.runs.specs.Walk.{new_walk, tallied, row_here, moved, chosen_by, taken, answered, moved_by, reading};
 
-use crate::find::find_row;
 use arena::arena::Arena;
 use arena::moves::Outcome;
 use runs::state::{State, Tally};
 use table::fault::Fault;
+use table::odd::{OddColour, PerColour};
 use table::rounds::{colour_of, latch_after};
 use table::row::{MAX_ROWS, Row};
 
@@ -17,18 +21,16 @@ pub const MAX_ROUNDS: u32 = 1_000_000;
 #[derive(Drop)]
 pub struct Walk<P> {
     state: State<P>,
-    ghost rounds: { state.tally.rounds ≤ 1000000 },
-    ghost one: { state.tally.one ≤ state.tally.rounds },
-    ghost three: { state.tally.three ≤ state.tally.rounds },
-    ghost five: { state.tally.five ≤ state.tally.rounds },
-    ghost seven: { state.tally.seven ≤ state.tally.rounds },
+    ghost rounds: { state.tally.rounds ≤ MAX_ROUNDS },
+    ghost counts: { (c : OddColour) → at c state.tally.counts ≤ state.tally.rounds },
 }
 
-/// The tally of the odd colour p after a round of this colour.
-fn tallied_after(p: u16, colour: u16, count: u32) -> u32
-    requires { count < 1000000 }
-    ensures { result ≡ tallied p colour count }
+/// The tally of an odd colour after a round of this colour.
+fn tallied_after(p: OddColour, colour: u16, count: u32) -> u32
+    requires { count < MAX_ROUNDS }
+    ensures { result ≡ tallied (odd p) colour count }
 {
+    let p = p.number();
     if p < colour {
         0
     } else if p == colour {
@@ -49,10 +51,9 @@ fn take_outcome<A: Arena>(
     if !arena.legal(&row.position, row.choice) {
         return Err(Fault::IllegalHere);
     }
-    let Some(outcome) = arena.outcome(&row.position, row.choice, number) else {
-        return Err(Fault::NoOutcome);
-    };
-    Ok(outcome)
+    arena
+        .outcome(&row.position, row.choice, number)
+        .ok_or(Fault::NoOutcome)
 }
 
 impl<P: Drop> Walk<P> {
@@ -64,10 +65,7 @@ impl<P: Drop> Walk<P> {
         let latch = arena.priority(&position);
         let tally = Tally {
             rounds: 0,
-            one: 0,
-            three: 0,
-            five: 0,
-            seven: 0,
+            counts: PerColour::from_fn(|_| 0),
         };
         Walk {
             state: State {
@@ -78,6 +76,19 @@ impl<P: Drop> Walk<P> {
         }
     }
 
+    /// The first row with the walk's position and latch.
+    fn row_here<'a, A: Arena<Position = P>>(
+        &self,
+        arena: &A,
+        rows: &'a [Row<P>],
+    ) -> Option<&'a Row<P>>
+        ensures { option_map (λ r. r.now) result ≡ row_here (A.Arena.meaning arena.now) rows.now self.now.state }
+    {
+        let here = &self.state;
+        rows.iter()
+            .find(|row| row.stands_at(arena, &here.position, here.latch))
+    }
+
     /// The outcome that a step with this number takes, or why it takes none.
     fn choose<A: Arena<Position = P>>(
         &self,
@@ -86,7 +97,7 @@ impl<P: Drop> Walk<P> {
         number: u16,
     ) -> Result<Outcome<P>, Fault>
         ensures chooses { result ≡ taken (A.Arena.meaning arena.now) rows.now number self.now.state }
-        ensures more { is_ok result ≡ true → self.now.state.tally.rounds < 1000000 }
+        ensures more { is_ok result ≡ true → self.now.state.tally.rounds < MAX_ROUNDS }
     {
         if rows.len() > MAX_ROWS {
             return Err(Fault::TooManyRows);
@@ -94,15 +105,13 @@ impl<P: Drop> Walk<P> {
         if self.state.tally.rounds >= MAX_ROUNDS {
             return Err(Fault::TooManyRounds);
         }
-        let Some(s) = find_row(arena, rows, &self.state.position, self.state.latch) else {
-            return Err(Fault::NoRowHere);
-        };
-        take_outcome(arena, &rows[s], number)
+        let row = self.row_here(arena, rows).ok_or(Fault::NoRowHere)?;
+        take_outcome(arena, row, number)
     }
 
     /// Does a round with this outcome.
     fn advance<A: Arena<Position = P>>(&mut self, arena: &A, outcome: Outcome<P>)
-        requires { self.old.state.tally.rounds < 1000000 }
+        requires { self.old.state.tally.rounds < MAX_ROUNDS }
         ensures { self.new.state ≡ moved (A.Arena.meaning arena.now) self.old.state outcome }
     {
         let colour = colour_of(self.state.latch, &outcome);
@@ -110,10 +119,7 @@ impl<P: Drop> Walk<P> {
         let old = self.state.tally;
         let tally = Tally {
             rounds: old.rounds + 1,
-            one: tallied_after(1, colour, old.one),
-            three: tallied_after(3, colour, old.three),
-            five: tallied_after(5, colour, old.five),
-            seven: tallied_after(7, colour, old.seven),
+            counts: PerColour::from_fn(|p| tallied_after(p, colour, *old.counts.get(p))),
         };
         self.state = State {
             position: outcome.position,
