@@ -1,7 +1,9 @@
 //! Reads the lines of a text, one after the other.
-ghost use Rattle.std.specs.Prelude.{◌≡◌, ◌≤◌, false, length, Ok};
+ghost use Rattle.std.specs.Prelude.{◌≡◌, ◌+◌, ◌<◌, ◌≤◌, false, length, slice_index_or, Ok};
 ghost use Rattle.casetext.specs.Text.{lines, fields};
-ghost use Rattle.casetext.specs.Lines.{out_of_place, forms, lesser, line_fault};
+ghost use Rattle.casetext.specs.declared.line.Form.TheVariants.{Owner};
+ghost use Rattle.casetext.specs.Fields.{wrong};
+ghost use Rattle.casetext.specs.Lines.{out_of_place, forms, line_fault};
 ghost use Rattle.casetext.specs.Case.{added, read_line, read_lines};
 ghost use Rattle.casefile.specs.Draft.{said, answered};
 
@@ -15,17 +17,6 @@ use casetext::fault::TextFault;
 use casetext::line::Kind;
 use refusals::refusal::Refuses;
 
-/// The fault with the smaller number, and of equal ones the first.
-fn lesser_fault(first: Option<TextFault>, second: Option<TextFault>) -> Option<TextFault>
-    ensures { result ≡ lesser first second }
-{
-    match (first, second) {
-        (Some(a), Some(b)) => Some(if a.number() <= b.number() { a } else { b }),
-        (None, b) => b,
-        (a, None) => a,
-    }
-}
-
 /// The first fault of a line of this kind, by number and then by field.
 fn line_fault(draft: &Draft, kind: Kind, line: &Line) -> Option<TextFault>
     ensures { result ≡ line_fault line.now.number (forms (said draft.now) kind) (fields line.now.bytes.now) }
@@ -38,16 +29,22 @@ fn line_fault(draft: &Draft, kind: Kind, line: &Line) -> Option<TextFault>
             field: present.min(needed) as u32 + 1,
         });
     }
-    let mut least = None;
-    for i in 0..needed {
-        let form = draft.form_at(kind, i);
-        let fault = field_fault(line.number, i as u32 + 1, form, line.field(i));
-        least = lesser_fault(least, fault);
-    }
-    least
+    line.bytes
+        .split(|b| *b == b'\t')
+        .enumerate()
+        .filter_map(|(i, field)| draft.field_fault(kind, line.number, i, field))
+        .min_by_key(|fault| fault.number())
 }
 
 impl Draft {
+    /// What is wrong with the i-th field, from 0, of a line of this kind.
+    fn field_fault(&self, kind: Kind, line: u32, i: usize, field: &[u8]) -> Option<TextFault>
+        requires { i < length (forms (said self.now) kind) }
+        ensures { result ≡ wrong line (i + 1) (slice_index_or (forms (said self.now) kind) i Owner) field.now }
+    {
+        field_fault(line, i as u32 + 1, self.form_at(kind, i), field)
+    }
+
     /// Adds what a line without faults says.
     fn add_line(&mut self, kind: Kind, line: &Line)
         requires { out_of_place (said self.old) kind ≡ false }

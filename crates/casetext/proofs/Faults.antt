@@ -1,8 +1,17 @@
 -- The least fault of a line, field by field.
-use Rattle.std.proofs.Common.{◌≡◌, ℕ, zero, suc, ◌+◌, ◌<◌, ◌≤◌, Bool, true, false, not, eqb, List, [], ◌∷◌, ◌++◌, length, get_or, drop, Some, None, Option, sym, refl, ap, ◌∙◌, inl, inr, arith}
-use Rattle.std.proofs.lemmas.List.{drop_more, drop_all}
-use Rattle.std.proofs.lemmas.Bool.{cases_Bool, eqb-true, cond-true, cond-false, eq-eqb, not-true}
+use Rattle.std.proofs.Common.{◌≡◌, ℕ, zero, suc, ◌+◌, ◌<◌, ◌≤◌, Bool, true, false, not, eqb, List, [], ◌∷◌, ◌++◌, length, get_or, drop, Some, None, Option, Ordering, Bor, sym, refl, ap, ◌∙◌, subst, inl, inr, arith}
+use denote.Param.Members.{Mut}
+use Rattle.std.specs.Fn.{CalledAt}
+use Rattle.std.specs.Iterator.{KeyTurn, PicksMinByKey}
+use Rattle.std.specs.List.{FoldsTo, cons_option, enumerate_from, filter_map}
+use Rattle.std.specs.Ordering.{min_by_ordering, nat_cmp}
+use Rattle.std.specs.declared.cmp.Ordering.TheVariants.{Less, Equal, Greater}
+use Rattle.std.proofs.lemmas.Cmp.{ranked}
+use Rattle.std.proofs.lemmas.Iterator.{YieldsList, items_from_drains}
+use Rattle.std.proofs.lemmas.List.{drop_more, map-id}
+use Rattle.std.proofs.lemmas.Bool.{cases_Bool, eqb-true, cond-true, cond-false, eq-eqb, le-leb, lt-leb, not-true}
 use Rattle.std.proofs.lemmas.Bool.Decides.{nat_tests}
+use Rattle.casetext.specs.Faults.{number_of}
 use Rattle.casetext.specs.declared.fault.TextFault.{TextFault}
 use Rattle.casetext.specs.declared.line.Form.{Form}
 use Rattle.casetext.specs.declared.line.Form.TheVariants.{Owner}
@@ -16,17 +25,59 @@ lesser_assoc (Some a) None c = refl
 lesser_assoc (Some a) (Some b) None = grind (arith, nat_tests)
 lesser_assoc (Some a) (Some b) (Some c) = grind (arith, nat_tests)
 
-pub lesser_none : (a : Option TextFault) → lesser a None ≡ a
-lesser_none None = refl
-lesser_none (Some a) = refl
+-- the least of some faults, and of equal ones the first
+abbrev pub leasts : List TextFault → Option TextFault
+leasts [] = None
+leasts (x ∷ xs) = lesser (Some x) (leasts xs)
 
--- one field more
-pub wrongs_more : (n k : ℕ) (ms : List Form) (fs : List (List ℕ)) (i : ℕ) (m : Form) → i < length ms → i < length fs → (least : Option TextFault) → lesser least (wrongs n k (drop i ms) (drop i fs)) ≡ lesser (lesser least (wrong n k (get_or ms i m) (get_or fs i []))) (wrongs n (k + 1) (drop (i + 1) ms) (drop (i + 1) fs))
-wrongs_more n k ms fs i m hm hf least =
-    ap (lesser least) (λ j. wrongs n k (drop_more ms i m hm j) (drop_more fs i [] hf j)) ∙ sym (lesser_assoc least _ _)
+leasts_cons : (o : Option TextFault) (xs : List TextFault) → leasts (cons_option o xs) ≡ lesser o (leasts xs)
+leasts_cons None xs = refl
+leasts_cons (Some x) xs = refl
 
-pub wrongs_all : (n k : ℕ) (ms : List Form) (fs : List (List ℕ)) (i : ℕ) → length ms ≤ i → wrongs n k (drop i ms) fs ≡ None
-wrongs_all n k ms fs i h = ap (λ x. wrongs n k x fs) (drop_all i ms h)
+-- what is wrong with a field of line n, which stands beside its number from 0
+abbrev pub wrong_at : ℕ → List Form → ℕ × List ℕ → Option TextFault
+wrong_at n ms p = wrong n (p.0 + 1) (get_or ms p.0 Owner) p.1
+
+wrongs_none : (n i : ℕ) (ms : List Form) → wrongs n i ms [] ≡ None
+wrongs_none n i [] = refl
+wrongs_none n i (m ∷ ms) = refl
+
+-- field by field, from the k-th on
+pub wrongs_are : (n : ℕ) (ms : List Form) (k : ℕ) (fs : List (List ℕ)) → k + length fs ≤ length ms → leasts (filter_map (wrong_at n ms) (enumerate_from k fs)) ≡ wrongs n (k + 1) (drop k ms) fs
+wrongs_are n ms k [] l = sym (wrongs_none n (k + 1) (drop k ms))
+wrongs_are n ms k (f ∷ fs) l =
+    let m = get_or ms k Owner in
+    leasts_cons (wrong n (k + 1) m f) _ ∙ ap (lesser (wrong n (k + 1) m f)) (wrongs_are n ms (k + 1) fs (omega arith)) ∙ ap (λ x. wrongs n (k + 1) x (f ∷ fs)) (sym (drop_more ms k Owner (omega arith)))
+
+pick_number : (o : Ordering) (a b : TextFault) → min_by_ordering o (number_of a) (number_of b) ≡ number_of (min_by_ordering o a b)
+pick_number Less a b = refl
+pick_number Equal a b = refl
+pick_number Greater a b = refl
+
+pick_lesser : (o : Ordering) (a b : TextFault) → nat_cmp (number_of a) (number_of b) ≡ o → Some (min_by_ordering o a b) ≡ lesser (Some a) (Some b)
+pick_lesser Less a b e = sym (cond-true _ _ _ (le-leb (number_of a) (number_of b) (omega (arith, ranked (number_of a) (number_of b) Less (sym e)))))
+pick_lesser Equal a b e = sym (cond-true _ _ _ (le-leb (number_of a) (number_of b) (omega (arith, ranked (number_of a) (number_of b) Equal (sym e)))))
+pick_lesser Greater a b e = sym (cond-false _ _ _ (lt-leb (number_of a) (number_of b) (omega (arith, ranked (number_of a) (number_of b) Greater (sym e)))))
+
+-- keeping the first of the faults with the smallest number gives the least
+module _ {F : Type 0} (g : Mut F (Bor TextFault × Unit {0}) ℕ) (cmp : ℕ → ℕ → Ordering) (f : F) (counts : (x y : ℕ) → cmp x y ≡ nat_cmp x y) (key : (x : TextFault) (k : ℕ) (q : F) → CalledAt g f x k q → (q ≡ f) × (k ≡ number_of x)) where
+  least_turns : (p : (F × ℕ) × TextFault) (xs : List TextFault) (q : F × ℕ) (y : TextFault) → p.0.0 ≡ f → p.0.1 ≡ number_of p.1 → FoldsTo (KeyTurn min_by_ordering min_by_ordering g cmp) p xs (q, y) → Some y ≡ lesser (Some p.1) (leasts xs)
+  least_turns p [] q y same number h = ap (λ w. Some w.1) (sym h)
+  least_turns p (z ∷ xs) q y same number h =
+      let P : F → Type 0 = λ w. CalledAt g w z h.1.0 h.0.0.0 in
+      let r = key z h.1.0 h.0.0.0 (subst P same h.1.2) in
+      let o = h.1.1 in
+      let ranks : nat_cmp (number_of p.1) (number_of z) ≡ o = ap (λ x. nat_cmp x (number_of z)) (sym number) ∙ ap (nat_cmp p.0.1) (sym r.1) ∙ sym (counts p.0.1 h.1.0) ∙ h.1.3 in
+      let next : h.0.0.1 ≡ number_of h.0.1 = h.1.4 ∙ ap (λ x. min_by_ordering o x h.1.0) number ∙ ap (min_by_ordering o (number_of p.1)) r.1 ∙ pick_number o p.1 z ∙ ap number_of (sym h.1.5) in
+      least_turns h.0 xs q y r.0 next h.2
+      ∙ ap (λ x. lesser x (leasts xs)) (ap Some h.1.5 ∙ pick_lesser o p.1 z ranks)
+      ∙ lesser_assoc (Some p.1) (Some z) (leasts xs)
+
+  pub least_from : {S : Type 0} {steps : S → Option TextFault → S → Type 0} {s : S} {all : List TextFault} (r : Option TextFault) → PicksMinByKey steps g cmp s f r → YieldsList steps (λ x. x) s all → r ≡ leasts all
+  least_from None h e = ap leasts (items_from_drains [] (h.1.0, h.1.1, λ _. (h.0, h.1.2)) e)
+  least_from (Some y) h e =
+      let first = key h.0 h.2 h.3 h.6 in
+      least_turns ((h.3, h.2), h.0) h.1 h.4 y first.0 first.1 h.7 ∙ ap leasts (sym (map-id (h.0 ∷ h.1)) ∙ items_from_drains (h.0 ∷ h.1) (h.5.1.0, h.5.1.1, λ _. (h.5.0, h.5.1.2)) e)
 
 -- a line without faults has all its fields, and nothing is wrong with any
 pub faultless_length : (n : ℕ) (ms : List Form) (fs : List (List ℕ)) → line_fault n ms fs ≡ None → length fs ≡ length ms

@@ -1,9 +1,10 @@
 -- The forms of a line's fields, one by one.
-use Rattle.std.proofs.Common.{◌≡◌, ℕ, zero, suc, ◌+◌, ◌-◌, ◌*◌, ◌%◌, ◌<◌, ◌≤◌, cond, eqb, List, [], ◌∷◌, ◌++◌, map, length, get_or, replicate, refl, ap, ◌∙◌, arith}
+use Rattle.std.proofs.Common.{◌≡◌, ℕ, zero, suc, ◌+◌, ◌-◌, ◌*◌, ◌%◌, ◌<◌, ◌≤◌, cond, eqb, List, [], ◌∷◌, ◌++◌, map, length, get_or, replicate, refl, ap, ◌∙◌, arith, lit≤}
 use Rattle.std.proofs.lemmas.List.{length-map, length-append, get_or-append_right, get_or-map, get_or-replicate}
 use Rattle.casetext.specs.declared.line.Form.{Form}
 use Rattle.casetext.specs.declared.line.Form.TheVariants.{Number, Interval, Choice}
-use Rattle.casetext.specs.declared.line.Kind.TheVariants.{Loc, Edge, Row}
+use Rattle.casetext.specs.declared.line.Kind.{Kind}
+use Rattle.casetext.specs.declared.line.Kind.TheVariants.{Clock, Loc, Edge, Row}
 use Rattle.casetext.specs.Fields.{max_location}
 use Rattle.casetext.specs.Items.{max_priority, max_whole, max_class, max_steps, max_rank}
 use Rattle.casetext.specs.Lines.{Said, standings, row_forms, row_end, forms}
@@ -25,6 +26,13 @@ length_row_forms cs = simp length-append (omega (arith, length_standings cs))
 
 pub length_row : (s : Said) → length (forms s Row) ≡ 11 + 2 * length s.ceilings
 length_row s = omega (arith, length_row_forms s.ceilings)
+
+-- no line has more than 17
+pub few_forms : (s : Said) (k : Kind) → length s.ceilings ≤ 3 → length (forms s k) ≤ 17
+few_forms s Clock few = lit≤ tt
+few_forms s Loc few = omega (arith, length_loc s)
+few_forms s Edge few = omega (arith, length_edge s)
+few_forms s Row few = omega (arith, length_row s)
 
 -- an interval for each clock, after n other fields
 pub interval_at : (pre : List Form) (cs : List ℕ) (n i : ℕ) (d : Form) → length pre ≡ n → n ≤ i → i < n + length cs → get_or (pre ++ map Interval cs) i d ≡ Interval (get_or cs (i - n) 0)
