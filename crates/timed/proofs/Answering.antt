@@ -32,6 +32,6 @@ module _ (g : Game) (s : Side) (p : TimedPosition) (m : Move) where
     pub carried_nowhere : None ≡ carried_out g s p m
     carried_nowhere = ap (λ b. cond b (resulting g s p.location m (waits m.steps (place_of g p).region)) None) illegal
 
-  module _ (q : List Part) (o : true ≡ owns g (place_of g p)) (e : q ≡ (place_of g p).region) where
-    pub carried_from : reached g s p.location q m ≡ carried_out g s p m
-    carried_from = rw (e, ← o) refl
+  module _ (l : ℕ) (q : List Part) (o : true ≡ owns g (place_of g p)) (i : l ≡ p.location) (e : q ≡ (place_of g p).region) where
+    pub carried_from : reached g s l q m ≡ carried_out g s p m
+    carried_from = rw (i, e, ← o) refl

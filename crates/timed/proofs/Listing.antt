@@ -26,19 +26,20 @@ module _ (g : Game) (p : TimedPosition) (m : Move) where
       let n : legal g Us (place_of g p) m.steps m.edge ≡ false = sym (legal_some g Us p m) ∙ ap is_some (sym e) in
       rw n refl
 
-  pub first_listed : (o : Outcome TimedPosition) (q : List Part) → q ≡ (place_of g p).region → Some o ≡ carried_out g Us p m
-      → o ∷ map in_code (theirs_over g p.location m.steps (Some q)) ≡ (timed_meaning g).outcomes p m
-  first_listed o q i e =
-      let l : legal g Us (place_of g p) m.steps m.edge ≡ true = sym (legal_some g Us p m) ∙ ap is_some (sym e) in
-      let a = allowed g Us p.location (place_of g p).region m.steps m.edge l in
-      let f : Some o ≡ Some (in_code (result_of g Us p.location (edge_at g m.edge) a.reached)) = rw (l, a.waited) at e in
+  pub first_listed : (o : Outcome TimedPosition) (l : ℕ) (q : List Part) → l ≡ p.location → q ≡ (place_of g p).region → Some o ≡ carried_out g Us p m
+      → o ∷ map in_code (theirs_over g l m.steps (Some q)) ≡ (timed_meaning g).outcomes p m
+  first_listed o l q j i e =
+      let t : legal g Us (place_of g p) m.steps m.edge ≡ true = sym (legal_some g Us p m) ∙ ap is_some (sym e) in
+      let a = allowed g Us p.location (place_of g p).region m.steps m.edge t in
+      let f : Some o ≡ Some (in_code (result_of g Us p.location (edge_at g m.edge) a.reached)) = rw (t, a.waited) at e in
       let d : o ≡ in_code (result_of g Us p.location (edge_at g m.edge) a.reached) = cc in
-      let t : outcomes g (place_of g p) m.steps m.edge ≡ result_of g Us p.location (edge_at g m.edge) a.reached ∷ theirs_over g p.location m.steps (Some (place_of g p).region) =
+      let all : outcomes g (place_of g p) m.steps m.edge ≡ result_of g Us p.location (edge_at g m.edge) a.reached ∷ theirs_over g p.location m.steps (Some (place_of g p).region) =
       listed g (place_of g p) m.steps m.edge ∙ ap (λ w. ours_at g p.location m.edge w ++ theirs_over g p.location m.steps (Some (place_of g p).region)) a.waited in
-      ap (λ q. o ∷ map in_code (theirs_over g p.location m.steps (Some q))) i
+      ap (λ l. o ∷ map in_code (theirs_over g l m.steps (Some q))) j
+      ∙ ap (λ q. o ∷ map in_code (theirs_over g p.location m.steps (Some q))) i
       ∙ ap (λ o. o ∷ map in_code (theirs_over g p.location m.steps (Some (place_of g p).region))) d
-      ∙ ap (map in_code) (sym t)
-      ∙ sym (cond-true (legal g Us (place_of g p) m.steps m.edge) (map in_code (outcomes g (place_of g p) m.steps m.edge)) [] l)
+      ∙ ap (map in_code) (sym all)
+      ∙ sym (cond-true (legal g Us (place_of g p) m.steps m.edge) (map in_code (outcomes g (place_of g p) m.steps m.edge)) [] t)
 
 -- from region to region
 module _ (g : Game) (l k : ℕ) (q : List Part) where

@@ -10,16 +10,16 @@ use Rattle.timed.specs.declared.timed_game.listing.Stage.{Stage}
 use Rattle.timed.specs.declared.timed_game.listing.Stage.TheVariants.{Ours, Wait, Edges}
 use Rattle.timed.specs.declared.timed_game.listing.TimedListing.{TimedListing}
 
--- at location l, with k more regions to come after this one
-module _ (g : Game) (l k : ℕ) where
+-- with k more regions to come after this one
+module _ (g : Game) (k : ℕ) where
   abbrev pub rest_at : Stage → List (Outcome TimedPosition)
-  rest_at (Ours o s) = o ∷ map in_code (theirs_over g l k (Some (standing s)))
-  rest_at (Wait s) = map in_code (theirs_over g l k (Some (standing s)))
-  rest_at (Edges s i) = map in_code (edges_from g l (standing s) i ++ theirs_after g l k (standing s))
+  rest_at (Ours o p) = o ∷ map in_code (theirs_over g p.location k (Some (standing p.clocks)))
+  rest_at (Wait p) = map in_code (theirs_over g p.location k (Some (standing p.clocks)))
+  rest_at (Edges p i) = map in_code (edges_from g p.location (standing p.clocks) i ++ theirs_after g p.location k (standing p.clocks))
 
   abbrev pub rest : Option Stage → List (Outcome TimedPosition)
   rest None = []
   rest (Some s) = rest_at s
 
 abbrev pub rest_of : Game → TimedListing → List (Outcome TimedPosition)
-rest_of g w = rest g w.location w.later w.stage
+rest_of g w = rest g w.later w.stage

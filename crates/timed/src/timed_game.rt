@@ -3,6 +3,7 @@ pub mod answers;
 pub mod as_arena;
 pub mod listing;
 pub mod making;
+mod place;
 
 ghost use Rattle.std.specs.Prelude.{◌≡◌, true};
 ghost use Rattle.game.specs.Game.{game, sound};

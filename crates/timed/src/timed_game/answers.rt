@@ -8,10 +8,10 @@ ghost use Rattle.timed.specs.Carried.{reached, carried_out};
 ghost use Rattle.timed.specs.Code.{game_of};
 
 use super::TimedGame;
+use super::place::Place;
 use crate::zones::is_met;
 use arena::moves::{Move, Outcome, Side};
 use game::parts::{Edge, Resets, TimedPosition};
-use regions::region::Restart;
 use regions::standing::Clocks;
 use soundness::items::item_at;
 
@@ -30,63 +30,61 @@ const NO_RESETS: Resets = Resets {
 fn carry(clocks: Clocks, resets: Resets) -> Clocks
     ensures { standing result ≡ carried (flags resets) (standing clocks) }
 {
-    clocks.restart(Restart {
-        x: resets.x,
-        y: resets.y,
-        z: resets.z,
-        tick: clocks.ticked(),
-    })
+    clocks.restart(resets.with_tick(clocks.ticked()))
 }
 
-/// The outcome of a move that leads to this location, by the clocks before and after it is carried
-/// out.
-fn outcome_at(by: Side, location: u8, before: Clocks, after: Clocks) -> Outcome<TimedPosition>
-    ensures { result ≡ in_code (record { position = place location (standing after); ticked = ticks (standing before); by = by }) }
+/// The outcome of a move that leads to this place, by the clocks before it is carried out.
+fn outcome_at(by: Side, before: Clocks, after: Place) -> Outcome<TimedPosition>
+    ensures { result ≡ in_code (record { position = place after.location (standing after.clocks); ticked = ticks (standing before); by = by }) }
 {
     Outcome {
         position: TimedPosition {
-            location,
-            region: after.region(),
+            location: after.location,
+            region: after.clocks.region(),
         },
         ticked: before.ticked(),
         by,
     }
 }
 
-/// What a plain wait comes to, once these clocks are reached.
-pub(super) fn wait_in(by: Side, location: u8, clocks: Clocks) -> Outcome<TimedPosition>
-    ensures { (g : Game) → result ≡ in_code (result_of g by location None (standing clocks)) }
+/// What a plain wait comes to, once this place is reached.
+pub(super) fn wait_in(by: Side, place: Place) -> Outcome<TimedPosition>
+    ensures { (g : Game) → result ≡ in_code (result_of g by place.location None (standing place.clocks)) }
 {
-    outcome_at(by, location, clocks, carry(clocks, NO_RESETS))
+    let clocks = carry(place.clocks, NO_RESETS);
+    outcome_at(by, place.clocks, Place { clocks, ..place })
 }
 
 impl TimedGame {
     /// Whether there is such a location, and the clocks keep its invariant.
-    fn keeps(&self, location: u8, clocks: Clocks) -> bool
-        ensures { result ≡ keeps (game_of self.now) location (standing clocks) }
+    fn keeps(&self, place: Place) -> bool
+        ensures { result ≡ keeps (game_of self.now) place.location (standing place.clocks) }
     {
-        match item_at(self.locations.as_slice(), location as usize) {
+        match item_at(self.locations.as_slice(), place.location as usize) {
             None => false,
-            Some(found) => is_met(found.invariant, clocks),
+            Some(found) => is_met(found.invariant, place.clocks),
         }
     }
 
-    /// Whether the clocks are those of an own position at this location: the tick clock has not
-    /// reached a unit, and the invariant holds.
-    fn is_own(&self, location: u8, clocks: Clocks) -> bool
-        ensures { result ≡ (last_whole (standing clocks) == 0 && keeps (game_of self.now) location (standing clocks)) }
+    /// Whether this is the place of an own position: the tick clock has not reached a unit, and
+    /// the invariant holds.
+    fn is_own(&self, place: Place) -> bool
+        ensures { result ≡ (last_whole (standing place.clocks) == 0 && keeps (game_of self.now) place.location (standing place.clocks)) }
     {
-        !clocks.ticked() && self.keeps(location, clocks)
+        !place.clocks.ticked() && self.keeps(place)
     }
 
-    /// The clocks of an own position.
-    pub(super) fn clocks_at(&self, p: TimedPosition) -> Option<Clocks>
+    /// The place of an own position.
+    pub(super) fn own_place(&self, p: TimedPosition) -> Option<Place>
         ensures test { is_some result ≡ owns (game_of self.now) (place_of (game_of self.now) p) }
-        ensures stands { IfSome result (λ s. standing s ≡ (place_of (game_of self.now) p).region) }
+        ensures stands { IfSome result (λ at. (at.location ≡ p.location) × (standing at.clocks ≡ (place_of (game_of self.now) p).region)) }
     {
-        let clocks = Clocks::new(self.ceilings, p.region)?;
-        if self.is_own(p.location, clocks) {
-            Some(clocks)
+        let place = Place {
+            location: p.location,
+            clocks: Clocks::new(self.ceilings, p.region)?,
+        };
+        if self.is_own(place) {
+            Some(place)
         } else {
             None
         }
@@ -96,58 +94,55 @@ impl TimedGame {
     pub(super) fn take_edge(
         &self,
         by: Side,
-        location: u8,
-        clocks: Clocks,
+        place: Place,
         edge: Edge,
     ) -> Option<Outcome<TimedPosition>>
         requires { habitable edge.guard ≡ true }
-        ensures { result ≡ (if fits (game_of self.now) by location (standing clocks) edge then Some (in_code (result_of (game_of self.now) by location (Some edge) (standing clocks))) else None) }
+        ensures { result ≡ (if fits (game_of self.now) by place.location (standing place.clocks) edge then Some (in_code (result_of (game_of self.now) by place.location (Some edge) (standing place.clocks))) else None) }
     {
-        if edge.side != by || edge.from != location || !is_met(edge.guard, clocks) {
+        let clocks = place.clocks;
+        if edge.side != by || edge.from != place.location || !is_met(edge.guard, clocks) {
             return None;
         }
-        let after = carry(clocks, edge.resets);
-        if !self.keeps(edge.to, after) {
+        let after = Place {
+            location: edge.to,
+            clocks: carry(clocks, edge.resets),
+        };
+        if !self.keeps(after) {
             return None;
         }
-        Some(outcome_at(by, edge.to, clocks, after))
+        Some(outcome_at(by, clocks, after))
     }
 
     /// What the edge of a number, or no edge, comes to where this side may take it.
-    fn take(
-        &self,
-        by: Side,
-        location: u8,
-        clocks: Clocks,
-        edge: Option<u16>,
-    ) -> Option<Outcome<TimedPosition>>
-        ensures { result ≡ (if may_take (game_of self.now) by location (standing clocks) edge then Some (in_code (result_of (game_of self.now) by location (edge_at (game_of self.now) edge) (standing clocks))) else None) }
+    fn take(&self, by: Side, place: Place, edge: Option<u16>) -> Option<Outcome<TimedPosition>>
+        ensures { result ≡ (if may_take (game_of self.now) by place.location (standing place.clocks) edge then Some (in_code (result_of (game_of self.now) by place.location (edge_at (game_of self.now) edge) (standing place.clocks))) else None) }
     {
         let Some(number) = edge else {
-            return Some(wait_in(by, location, clocks));
+            return Some(wait_in(by, place));
         };
         let edge = item_at(self.edges.as_slice(), number as usize)?;
-        self.take_edge(by, location, clocks, edge)
+        self.take_edge(by, place, edge)
     }
 
-    /// What a move of this side comes to from where the clocks stand, if it is legal there.
+    /// What a move of this side comes to from this place, if it is legal there.
     pub(super) fn carry_out_from(
         &self,
         by: Side,
-        location: u8,
-        clocks: Clocks,
+        place: Place,
         m: Move,
     ) -> Option<Outcome<TimedPosition>>
-        ensures { result ≡ reached (game_of self.now) by location (standing clocks) m }
+        ensures { result ≡ reached (game_of self.now) by place.location (standing place.clocks) m }
     {
         if m.steps > MOST_STEPS {
             return None;
         }
-        let clocks = clocks.wait(m.steps)?;
-        if !self.keeps(location, clocks) {
+        let clocks = place.clocks.wait(m.steps)?;
+        let place = Place { clocks, ..place };
+        if !self.keeps(place) {
             return None;
         }
-        self.take(by, location, clocks, m.edge)
+        self.take(by, place, m.edge)
     }
 
     /// What a move of this side comes to, if it is legal.
@@ -155,8 +150,8 @@ impl TimedGame {
         ensures test { is_some result ≡ legal (game_of self.now) by (place_of (game_of self.now) p) m.steps m.edge }
         ensures result { result ≡ carried_out (game_of self.now) by p m }
     {
-        let clocks = self.clocks_at(p)?;
-        self.carry_out_from(by, p.location, clocks, m)
+        let place = self.own_place(p)?;
+        self.carry_out_from(by, place, m)
     }
 
     /// Whether this is a legal move of this side.

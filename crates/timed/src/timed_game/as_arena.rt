@@ -1,7 +1,7 @@
 //! The timed game as an arena.
 ghost use Rattle.std.specs.Prelude.{◌≡◌, Some};
 ghost use Rattle.game.specs.Game.{fresh};
-ghost use Rattle.game.specs.Timed.{clock_region, same_clock, timed_meaning};
+ghost use Rattle.game.specs.Timed.{clock_region, timed_meaning};
 ghost use Rattle.timed.specs.Code.{game_of};
 ghost use Rattle.timed.specs.Rest.{rest_of};
 ghost use Rattle.game.proofs.Lawfuls.{lawfully};
@@ -22,13 +22,6 @@ fn fresh_clock(ceiling: u8) -> ClockRegion
     ClockRegion { whole, class: 0 }
 }
 
-/// Whether two clocks stand at the same place.
-fn same_clock(a: ClockRegion, b: ClockRegion) -> bool
-    ensures { result ≡ same_clock a b }
-{
-    a.whole == b.whole && a.class == b.class
-}
-
 // each question answers by the meaning of the game's tables
 impl Arena for TimedGame {
     type Position = TimedPosition;
@@ -44,21 +37,12 @@ impl Arena for TimedGame {
     fn start(&self) -> TimedPosition {
         TimedPosition {
             location: 0,
-            region: Region {
-                x: fresh_clock(self.ceilings.x),
-                y: fresh_clock(self.ceilings.y),
-                z: fresh_clock(self.ceilings.z),
-                tick: fresh_clock(TICK_CEILING),
-            },
+            region: self.ceilings.with_tick(TICK_CEILING).map(fresh_clock),
         }
     }
 
     fn same(&self, p: &TimedPosition, q: &TimedPosition) -> bool {
-        p.location == q.location
-            && same_clock(p.region.x, q.region.x)
-            && same_clock(p.region.y, q.region.y)
-            && same_clock(p.region.z, q.region.z)
-            && same_clock(p.region.tick, q.region.tick)
+        p == q
     }
 
     fn digest(&self, p: &TimedPosition) -> u32 {
@@ -74,17 +58,17 @@ impl Arena for TimedGame {
     }
 
     fn owns(&self, p: &TimedPosition) -> bool {
-        self.clocks_at(*p).is_some()
+        self.own_place(*p).is_some()
     }
 
     fn priority(&self, p: &TimedPosition) -> u8 {
         if !self.owns(p) {
             return 0;
         }
-        match item_at(self.locations.as_slice(), p.location as usize) {
-            None => 0,
-            Some(location) => location.priority,
-        }
+        item_at(self.locations.as_slice(), p.location as usize).map_or(
+            0,
+            |location| location.priority,
+        )
     }
 
     fn label(&self, p: &TimedPosition) -> u8 {

@@ -11,26 +11,25 @@ ghost use Rattle.timed.specs.Rest.{rest, rest_of};
 
 use super::TimedGame;
 use super::answers::wait_in;
+use super::place::Place;
 use arena::moves::{Move, Outcome, Side};
 use game::parts::TimedPosition;
-use regions::standing::Clocks;
 
 /// What comes next in a listing.
 #[derive(Clone, Copy)]
 enum Stage {
-    /// Our outcome, and then theirs from these clocks on.
-    Ours(Outcome<TimedPosition>, Clocks),
-    /// Their plain wait where these clocks stand.
-    Wait(Clocks),
-    /// Their edges where these clocks stand, from a number on.
-    Edges(Clocks, usize),
+    /// Our outcome, and then theirs from this place on.
+    Ours(Outcome<TimedPosition>, Place),
+    /// Their plain wait at this place.
+    Wait(Place),
+    /// Their edges at this place, from a number on.
+    Edges(Place, usize),
 }
 
-/// How far a listing of a move's outcomes has come: the location, how many regions come after the
-/// present one, and what is next, if anything.
+/// How far a listing of a move's outcomes has come: how many regions come after the present one,
+/// and what is next, if anything.
 #[derive(Clone, Copy)]
 pub struct TimedListing {
-    location: u8,
     later: u8,
     stage: Option<Stage>,
 }
@@ -38,11 +37,11 @@ pub struct TimedListing {
 impl TimedGame {
     /// Our outcome, with theirs to come, if the move is legal.
     fn first_stage(&self, p: TimedPosition, m: Move) -> Option<Stage>
-        ensures { rest (game_of self.now) p.location m.steps result ≡ (timed_meaning (game_of self.now)).outcomes p m }
+        ensures { rest (game_of self.now) m.steps result ≡ (timed_meaning (game_of self.now)).outcomes p m }
     {
-        let clocks = self.clocks_at(p)?;
-        let ours = self.carry_out_from(Side::Us, p.location, clocks, m)?;
-        Some(Stage::Ours(ours, clocks))
+        let place = self.own_place(p)?;
+        let ours = self.carry_out_from(Side::Us, place, m)?;
+        Some(Stage::Ours(ours, place))
     }
 
     /// Begins a listing.
@@ -50,25 +49,19 @@ impl TimedGame {
         ensures { rest_of (game_of self.now) result ≡ (timed_meaning (game_of self.now)).outcomes p m }
     {
         TimedListing {
-            location: p.location,
             later: m.steps,
             stage: self.first_stage(p, m),
         }
     }
 
     /// Their next edge that they may take, from a number on, which moves on.
-    fn next_edge(
-        &self,
-        location: u8,
-        clocks: Clocks,
-        from: &mut usize,
-    ) -> Option<Outcome<TimedPosition>>
-        ensures { map in_code (edges_from (game_of self.now) location (standing clocks) from.old) ≡ handed result (map in_code (edges_from (game_of self.now) location (standing clocks) from.new)) }
+    fn next_edge(&self, place: Place, from: &mut usize) -> Option<Outcome<TimedPosition>>
+        ensures { map in_code (edges_from (game_of self.now) place.location (standing place.clocks) from.old) ≡ handed result (map in_code (edges_from (game_of self.now) place.location (standing place.clocks) from.new)) }
     {
         while *from < self.edges.len() {
             let edge = self.edges[*from];
             *from += 1;
-            if let Some(outcome) = self.take_edge(Side::Them, location, clocks, edge) {
+            if let Some(outcome) = self.take_edge(Side::Them, place, edge) {
                 return Some(outcome);
             }
         }
@@ -80,16 +73,16 @@ impl TimedGame {
         ensures { YieldsFirst (rest_of (game_of self.now)) listing.old result listing.new }
     {
         match listing.stage? {
-            Stage::Ours(ours, clocks) => {
-                listing.stage = Some(Stage::Wait(clocks));
+            Stage::Ours(ours, place) => {
+                listing.stage = Some(Stage::Wait(place));
                 Some(ours)
             }
-            Stage::Wait(clocks) => Some(listing.enter(clocks)),
-            Stage::Edges(clocks, mut from) => {
-                let Some(edge) = self.next_edge(listing.location, clocks, &mut from) else {
-                    return listing.go_on(clocks);
+            Stage::Wait(place) => Some(listing.enter(place)),
+            Stage::Edges(place, mut from) => {
+                let Some(edge) = self.next_edge(place, &mut from) else {
+                    return listing.go_on(place);
                 };
-                listing.stage = Some(Stage::Edges(clocks, from));
+                listing.stage = Some(Stage::Edges(place, from));
                 Some(edge)
             }
         }
@@ -97,25 +90,25 @@ impl TimedGame {
 }
 
 impl TimedListing {
-    /// Gives their plain wait where these clocks stand; their edges come next.
-    fn enter(&mut self, clocks: Clocks) -> Outcome<TimedPosition>
-        ensures { (g : Game) → map in_code (theirs_over g self.old.location self.old.later (Some (standing clocks))) ≡ result ∷ rest_of g self.new }
+    /// Gives their plain wait at this place; their edges come next.
+    fn enter(&mut self, place: Place) -> Outcome<TimedPosition>
+        ensures { (g : Game) → map in_code (theirs_over g place.location self.old.later (Some (standing place.clocks))) ≡ result ∷ rest_of g self.new }
     {
-        self.stage = Some(Stage::Edges(clocks, 0));
-        wait_in(Side::Them, self.location, clocks)
+        self.stage = Some(Stage::Edges(place, 0));
+        wait_in(Side::Them, place)
     }
 
-    /// Goes on to the region after the one where these clocks stand, if the listing goes so far.
-    fn go_on(&mut self, clocks: Clocks) -> Option<Outcome<TimedPosition>>
-        ensures gives { (g : Game) → map in_code (theirs_after g self.old.location self.old.later (standing clocks)) ≡ handed result (rest_of g self.new) }
+    /// Goes on to the region after this place's, if the listing goes so far.
+    fn go_on(&mut self, place: Place) -> Option<Outcome<TimedPosition>>
+        ensures gives { (g : Game) → map in_code (theirs_after g place.location self.old.later (standing place.clocks)) ≡ handed result (rest_of g self.new) }
         ensures ends { (g : Game) → IfNone result (rest_of g self.new ≡ []) }
     {
         self.stage = None;
         if self.later == 0 {
             return None;
         }
-        let clocks = clocks.next()?;
+        let clocks = place.clocks.next()?;
         self.later -= 1;
-        Some(self.enter(clocks))
+        Some(self.enter(Place { clocks, ..place }))
     }
 }

@@ -6,5 +6,5 @@ use Rattle.timed.proofs.timed_game.TimedGame.keeps.Goals as goal
 
 pub is_met-requires : goal.is_met-requires
 is_met-requires c =
-    invariant_checked (game_of c.args.self.now) c.args.self.now.ok c.args.location c.in-Some.found
-    (c.in-Some.ensures ∙ ap (λ xs. slice_get xs c.args.location) c.as_slice.ensures.value)
+    invariant_checked (game_of c.args.self.now) c.args.self.now.ok c.args.place.location c.in-Some.found
+    (c.in-Some.ensures ∙ ap (λ xs. slice_get xs c.args.place.location) c.as_slice.ensures.value)

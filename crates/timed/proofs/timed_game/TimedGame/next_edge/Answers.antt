@@ -13,9 +13,9 @@ take_edge-requires c = guard_checked (game_of c.args.self.now) c.args.self.now.o
 pub returns-in-Some : goal.returns-in-Some
 returns-in-Some c =
     ap (map in_code) c.loop-from.invariant
-    ∙ edge_given (game_of c.args.self.now) c.args.location (standing c.args.clocks) c.loop-from.from c.index-edge.result.now (read_nth (vec_items c.args.self.now.edges) c.loop-from.from c.index-edge.result.now (omega arith) c.index-edge.ensures) (omega arith) c.in-Some.outcome c.in-Some.ensures
+    ∙ edge_given (game_of c.args.self.now) c.args.place.location (standing c.args.place.clocks) c.loop-from.from c.index-edge.result.now (read_nth (vec_items c.args.self.now.edges) c.loop-from.from c.index-edge.result.now (omega arith) c.index-edge.ensures) (omega arith) c.in-Some.outcome c.in-Some.ensures
 
 pub loop-from-preserved : goal.loop-from-preserved
 loop-from-preserved c =
     c.loop-from.invariant
-    ∙ edge_passed (game_of c.args.self.now) c.args.location (standing c.args.clocks) c.loop-from.from c.index-edge.result.now (read_nth (vec_items c.args.self.now.edges) c.loop-from.from c.index-edge.result.now (omega arith) c.index-edge.ensures) (omega arith) c.in_default.ensures
+    ∙ edge_passed (game_of c.args.self.now) c.args.place.location (standing c.args.place.clocks) c.loop-from.from c.index-edge.result.now (read_nth (vec_items c.args.self.now.edges) c.loop-from.from c.index-edge.result.now (omega arith) c.index-edge.ensures) (omega arith) c.in_default.ensures

@@ -7,8 +7,8 @@ use Rattle.timed.proofs.timed_game.TimedGame.next_edge.Given as goal
 -- the edges that are passed have nothing to give
 abbrev pub invariant-loop-from : goal.invariant-loop-from
 invariant-loop-from l =
-    edges_from (game_of l.self) l.location (standing l.clocks) l.initial.from
-    ≡ edges_from (game_of l.self) l.location (standing l.clocks) l.from
+    edges_from (game_of l.self) l.place.location (standing l.place.clocks) l.initial.from
+    ≡ edges_from (game_of l.self) l.place.location (standing l.place.clocks) l.from
 
 abbrev pub decreases-loop-from : goal.decreases-loop-from
 decreases-loop-from l = vec_len l.self.edges - l.from

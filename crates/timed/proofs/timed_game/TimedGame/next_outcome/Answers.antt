@@ -8,18 +8,18 @@ use Rattle.timed.proofs.timed_game.TimedGame.next_outcome.Goals as goal
 
 pub returns-in-Some : goal.returns-in-Some
 returns-in-Some c =
-    ap (rest (game_of c.args.self.now) c.args.listing.now.location c.args.listing.now.later) (c.in_ok-ours.was ∙ ap Some c.in-Edges.is)
-    ∙ edge_handed c.in-Some.edge (edges_from (game_of c.args.self.now) c.args.listing.now.location (standing c.in-Edges.clocks) c.in-Edges.from)
-    (edges_from (game_of c.args.self.now) c.args.listing.now.location (standing c.in-Edges.clocks) c.next_edge.new.from)
-    (theirs_after (game_of c.args.self.now) c.args.listing.now.location c.args.listing.now.later (standing c.in-Edges.clocks))
+    ap (rest (game_of c.args.self.now) c.args.listing.now.later) (c.in_ok-ours.was ∙ ap Some c.in-Edges.is)
+    ∙ edge_handed c.in-Some.edge (edges_from (game_of c.args.self.now) c.in-Edges.place.location (standing c.in-Edges.place.clocks) c.in-Edges.from)
+    (edges_from (game_of c.args.self.now) c.in-Edges.place.location (standing c.in-Edges.place.clocks) c.next_edge.new.from)
+    (theirs_after (game_of c.args.self.now) c.in-Edges.place.location c.args.listing.now.later (standing c.in-Edges.place.clocks))
     c.in-Some.ensures
 
 pub returns-in_default : goal.returns-in_default
 returns-in_default c =
     yields c.go_on.result (rest_of (game_of c.args.self.now) c.args.listing.now) (rest_of (game_of c.args.self.now) c.go_on.new.self)
-    (ap (rest (game_of c.args.self.now) c.args.listing.now.location c.args.listing.now.later) (c.in_ok-ours.was ∙ ap Some c.in-Edges.is)
-    ∙ edges_over (edges_from (game_of c.args.self.now) c.args.listing.now.location (standing c.in-Edges.clocks) c.in-Edges.from)
-    (theirs_after (game_of c.args.self.now) c.args.listing.now.location c.args.listing.now.later (standing c.in-Edges.clocks))
+    (ap (rest (game_of c.args.self.now) c.args.listing.now.later) (c.in_ok-ours.was ∙ ap Some c.in-Edges.is)
+    ∙ edges_over (edges_from (game_of c.args.self.now) c.in-Edges.place.location (standing c.in-Edges.place.clocks) c.in-Edges.from)
+    (theirs_after (game_of c.args.self.now) c.in-Edges.place.location c.args.listing.now.later (standing c.in-Edges.place.clocks))
     c.in_default.ensures
     ∙ c.go_on.ensures.gives (game_of c.args.self.now))
     (c.go_on.ensures.ends (game_of c.args.self.now))

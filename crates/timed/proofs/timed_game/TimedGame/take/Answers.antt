@@ -8,7 +8,7 @@ use Rattle.timed.proofs.timed_game.TimedGame.take.Goals as goal
 
 pub returns-in_default : goal.returns-in_default
 returns-in_default c =
-    taken_plainly (game_of c.args.self.now) c.args.by c.args.location (standing c.args.clocks) c.args.edge c.wait_in.result c.in_default.is (c.wait_in.ensures (game_of c.args.self.now))
+    taken_plainly (game_of c.args.self.now) c.args.by c.args.place.location (standing c.args.place.clocks) c.args.edge c.wait_in.result c.in_default.is (c.wait_in.ensures (game_of c.args.self.now))
 
 pub take_edge-requires : goal.take_edge-requires
 take_edge-requires c =

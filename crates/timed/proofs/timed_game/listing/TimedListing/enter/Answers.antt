@@ -3,4 +3,4 @@ use Rattle.timed.proofs.Listing.{entered}
 use Rattle.timed.proofs.timed_game.listing.TimedListing.enter.Goals as goal
 
 pub returns : goal.returns
-returns c = λ g. entered g c.args.self.now.location c.args.self.now.later (standing c.args.clocks) c.wait_in.result (c.wait_in.ensures g)
+returns c = λ g. entered g c.args.place.location c.args.self.now.later (standing c.args.place.clocks) c.wait_in.result (c.wait_in.ensures g)
