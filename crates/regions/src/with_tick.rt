@@ -1,6 +1,8 @@
 //! One of something for each clock of a game and for the tick clock.
 ghost use Rattle.std.specs.Prelude.{◌≡◌, ◌&&◌, ◌||◌};
 
+use crate::per_clock::PerClock;
+
 /// One for each clock that a game may have, and one for the tick clock.
 #[derive(Clone, Copy, PartialEq, Eq)]
 pub struct WithTick<T> {
@@ -11,6 +13,17 @@ pub struct WithTick<T> {
 }
 
 impl<T: Copy> WithTick<T> {
+    /// Those of the game's clocks.
+    pub fn without_tick(self) -> PerClock<T>
+        ensures { result ≡ record { x = self.x; y = self.y; z = self.z } }
+    {
+        PerClock {
+            x: self.x,
+            y: self.y,
+            z: self.z,
+        }
+    }
+
     /// What `f` makes of each.
     pub fn map<U, F: Fn(T) -> U>(self, f: F) -> WithTick<U>
         requires x { F.pre f self.x }

@@ -1,7 +1,8 @@
 -- Outcomes given one by one.
-use Rattle.std.proofs.Common.{◌≡◌, ℕ, suc, ◌+◌, ◌-◌, ◌<◌, Bool, true, false, cond, List, [], ◌∷◌, ◌++◌, map, length, is_some, Some, None, Option, IfNone, MatchOption, sym, refl, ap, ◌∙◌, arith}
+use Rattle.std.proofs.Common.{◌≡◌, ℕ, suc, ◌+◌, ◌-◌, ◌<◌, Bool, true, false, cond, List, [], ◌∷◌, ◌++◌, map, length, is_some, Some, None, Option, IfNone, MatchOption, sym, refl, ap, ◌∙◌, arith, ◌≤◌, ◌⊎◌, get_or, inl, inr}
 use mathlib.Core.List.{map-append}
 use Rattle.std.specs.List.{slice_get}
+use Rattle.std.proofs.lemmas.Option.{slice_get_cases}
 use Rattle.std.proofs.lemmas.Bool.{cond-true}
 use Rattle.arena.specs.declared.moves.Side.TheVariants.{Us, Them}
 use Rattle.arena.specs.declared.moves.Move.{Move}
@@ -72,6 +73,14 @@ module _ (g : Game) (l : ℕ) (q : List Part) (i : ℕ) (e : Edge) (at : Some e 
   edge_passed h =
       let t = none_when (fits g Them l q e) (in_code (result_of g Them l (Some e) q)) h in
       (by_edge g l q i).0 n ∙ ap (λ xs. xs ++ edges_from g l q (i + 1)) (edge_there false t)
+
+-- past the last edge
+pub edges_end : (g : Game) (l : ℕ) (q : List Part) (i : ℕ) → None ≡ slice_get g.edges i → edges_from g l q i ≡ []
+edges_end g l q i e = (by_edge g l q i).1 (past (slice_get_cases g.edges i).1)
+  where
+    past : ((x : Edge) × (i < length g.edges) × (slice_get g.edges i ≡ Some x) × (get_or g.edges i x ≡ x)) ⊎ ((length g.edges ≤ i) × (slice_get g.edges i ≡ None)) → length g.edges ≤ i
+    past (inl h) = let z : ◌≡◌ {A = ℕ} 0 1 = cc in let w : ⊥ = omega arith in absurd w
+    past (inr h) = h.0
 
 -- an edge is handed out
 pub edge_handed : (o : Outcome TimedPosition) (xs ys zs : List (Outcome Place)) → map in_code xs ≡ o ∷ map in_code ys → map in_code (xs ++ zs) ≡ o ∷ map in_code (ys ++ zs)

@@ -24,8 +24,7 @@ pub(crate) fn is_met(rows: Zone, clocks: Clocks) -> bool
     requires { habitable rows ≡ true }
     ensures { result ≡ holds (zone rows) (standing clocks) }
 {
-    let at = clocks.region();
-    interval_of(rows.x).contains(at.x)
-        && interval_of(rows.y).contains(at.y)
-        && interval_of(rows.z).contains(at.z)
+    rows.zip(clocks.region().without_tick())
+        .map(|(row, clock)| interval_of(row).contains(clock))
+        .all()
 }

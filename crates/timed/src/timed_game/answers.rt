@@ -60,10 +60,10 @@ impl TimedGame {
     fn keeps(&self, place: Place) -> bool
         ensures { result ≡ keeps (game_of self.now) place.location (standing place.clocks) }
     {
-        match item_at(self.locations.as_slice(), place.location as usize) {
-            None => false,
-            Some(found) => is_met(found.invariant, place.clocks),
-        }
+        let Some(found) = item_at(self.locations.as_slice(), place.location as usize) else {
+            return false;
+        };
+        is_met(found.invariant, place.clocks)
     }
 
     /// Whether this is the place of an own position: the tick clock has not reached a unit, and

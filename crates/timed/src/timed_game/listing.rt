@@ -14,6 +14,7 @@ use super::answers::wait_in;
 use super::place::Place;
 use arena::moves::{Move, Outcome, Side};
 use game::parts::TimedPosition;
+use soundness::items::item_at;
 
 /// What comes next in a listing.
 #[derive(Clone, Copy)]
@@ -58,8 +59,7 @@ impl TimedGame {
     fn next_edge(&self, place: Place, from: &mut usize) -> Option<Outcome<TimedPosition>>
         ensures { map in_code (edges_from (game_of self.now) place.location (standing place.clocks) from.old) ≡ handed result (map in_code (edges_from (game_of self.now) place.location (standing place.clocks) from.new)) }
     {
-        while *from < self.edges.len() {
-            let edge = self.edges[*from];
+        while let Some(edge) = item_at(self.edges.as_slice(), *from) {
             *from += 1;
             if let Some(outcome) = self.take_edge(Side::Them, place, edge) {
                 return Some(outcome);
