@@ -1,5 +1,5 @@
 -- An arena by its answers, and the laws that they keep.
-use Rattle.std.specs.Prelude.{◌≡◌, ℕ, ◌≤◌, Bool, true, false, List, [], ◌∷◌, length, Some, None, Decides, Option}
+use Rattle.std.specs.Prelude.{◌≡◌, ℕ, ◌≤◌, Bool, true, false, List, [], length, Decides}
 use Rattle.std.specs.List.{AllByRecursion}
 use Rattle.arena.specs.declared.moves.Move.{Move}
 use Rattle.arena.specs.declared.moves.Outcome.{Outcome}
@@ -31,8 +31,3 @@ pub record Lawful {P : Type 0} (m : Meaning P) : Type 0 where
   -- priorities go up to 5 and labels to 31; a position that is not its own has 0 for both
   pub ranges : (p : P) → (m.priority p ≤ 5) × (m.label p ≤ 31)
   pub strange : (p : P) → m.owns p ≡ false → (m.priority p ≡ 0) × (m.label p ≡ 0)
-
--- what a listing had before it gave its next element, or found that there is none
-abbrev pub handed : {X : Type 0} → Option X → List X → List X
-handed None xs = []
-handed (Some x) xs = x ∷ xs

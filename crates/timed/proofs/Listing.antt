@@ -1,5 +1,5 @@
 -- Outcomes given one by one.
-use Rattle.std.proofs.Common.{◌≡◌, ℕ, suc, ◌+◌, ◌-◌, ◌<◌, Bool, true, false, cond, List, [], ◌∷◌, ◌++◌, map, length, is_some, Some, None, Option, IfNone, MatchOption, sym, refl, ap, ◌∙◌, arith, ◌≤◌, ◌⊎◌, get_or, inl, inr}
+use Rattle.std.proofs.Common.{◌≡◌, ℕ, suc, ◌+◌, ◌-◌, ◌<◌, Bool, true, false, cond, List, [], ◌∷◌, ◌++◌, map, length, is_some, Some, None, sym, refl, ap, ◌∙◌, arith, ◌≤◌, ◌⊎◌, get_or, inl, inr}
 use mathlib.Core.List.{map-append}
 use Rattle.std.specs.List.{slice_get}
 use Rattle.std.proofs.lemmas.Option.{slice_get_cases}
@@ -7,7 +7,6 @@ use Rattle.std.proofs.lemmas.Bool.{cond-true}
 use Rattle.arena.specs.declared.moves.Side.TheVariants.{Us, Them}
 use Rattle.arena.specs.declared.moves.Move.{Move}
 use Rattle.arena.specs.declared.moves.Outcome.{Outcome}
-use Rattle.arena.specs.Meaning.{handed}
 use Rattle.clocks.specs.Regions.{Part, next}
 use Rattle.game.specs.declared.parts.Edge.{Edge}
 use Rattle.game.specs.declared.parts.TimedPosition.{TimedPosition}
@@ -89,8 +88,3 @@ edge_handed o xs ys zs e = map-append in_code xs zs ∙ ap (λ os. os ++ map in_
 -- or they have none left in this region
 pub edges_over : (xs zs : List (Outcome Place)) → map in_code xs ≡ [] → map in_code (xs ++ zs) ≡ map in_code zs
 edges_over xs zs e = map-append in_code xs zs ∙ ap (λ os. os ++ map in_code zs) e
-
--- what came next, and whether anything is left
-pub yields : (r : Option (Outcome TimedPosition)) (xs ys : List (Outcome TimedPosition)) → xs ≡ handed r ys → IfNone r (ys ≡ []) → MatchOption r ((xs ≡ []) × (ys ≡ [])) (λ o. xs ≡ o ∷ ys)
-yields None xs ys e n = (e, n)
-yields (Some o) xs ys e n = e

@@ -1,7 +1,6 @@
 //! The outcomes of a move, one by one.
-ghost use Rattle.std.specs.Prelude.{◌≡◌, ◌∷◌, [], map, IfNone, Some};
+ghost use Rattle.std.specs.Prelude.{◌≡◌, ◌∷◌, [], map, MatchOption, Some};
 ghost use Rattle.std.specs.Iterator.{YieldsFirst};
-ghost use Rattle.arena.specs.Meaning.{handed};
 ghost use Rattle.regions.specs.Standing.{standing};
 ghost use Rattle.game.specs.Game.{Game};
 ghost use Rattle.game.specs.Listing.{edges_from, theirs_over, theirs_after};
@@ -57,7 +56,7 @@ impl TimedGame {
 
     /// Their next edge that they may take, from a number on, which moves on.
     fn next_edge(&self, place: Place, from: &mut usize) -> Option<Outcome<TimedPosition>>
-        ensures { map in_code (edges_from (game_of self.now) place.location (standing place.clocks) from.old) ≡ handed result (map in_code (edges_from (game_of self.now) place.location (standing place.clocks) from.new)) }
+        ensures { YieldsFirst (λ i. map in_code (edges_from (game_of self.now) place.location (standing place.clocks) i)) from.old result from.new }
     {
         while let Some(edge) = item_at(self.edges.as_slice(), *from) {
             *from += 1;
@@ -100,8 +99,7 @@ impl TimedListing {
 
     /// Goes on to the region after this place's, if the listing goes so far.
     fn go_on(&mut self, place: Place) -> Option<Outcome<TimedPosition>>
-        ensures gives { (g : Game) → map in_code (theirs_after g place.location self.old.later (standing place.clocks)) ≡ handed result (rest_of g self.new) }
-        ensures ends { (g : Game) → IfNone result (rest_of g self.new ≡ []) }
+        ensures { (g : Game) → let left = map in_code (theirs_after g place.location self.old.later (standing place.clocks)) in MatchOption result ((left ≡ []) × (rest_of g self.new ≡ [])) (λ o. left ≡ o ∷ rest_of g self.new) }
     {
         self.stage = None;
         if self.later == 0 {

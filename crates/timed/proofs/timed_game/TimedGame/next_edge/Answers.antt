@@ -33,4 +33,4 @@ loop-edge-smaller c =
 pub returns : goal.returns
 returns c =
     let past = edges_end (game_of c.args.self.now) c.args.place.location (standing c.args.place.clocks) c.loop-edge.from (c.in_default.ensures ∙ ap (λ xs. slice_get xs c.loop-edge.from) c.as_slice.ensures.value) in
-    ap (map in_code) (c.loop-edge.invariant ∙ past)
+    (ap (map in_code) (c.loop-edge.invariant ∙ past), ap (map in_code) past)
