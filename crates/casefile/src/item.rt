@@ -1,7 +1,7 @@
 //! What a line without faults says.
 ghost use Rattle.std.specs.Prelude.{◌≡◌, ◌<◌, ◌≤◌};
 ghost use Rattle.casetext.specs.Text.{fields};
-ghost use Rattle.casetext.specs.Items.{bounds, zone, location, side, reset_at, resets, edge, clock_at, clock_of, region, row, ranks};
+ghost use Rattle.casetext.specs.Items.{bounds, zone, location, side, resets, edge, clock_at, clock_of, region, row, ranks};
 
 use crate::interval::read_interval;
 use crate::limits::{
@@ -11,25 +11,23 @@ use crate::line::Line;
 use crate::text::{byte_at, read_number};
 use arena::moves::{Move, Side};
 use casetext::ranks::Ranks;
-use game::bounds::{Bound, Bounds, Zone};
+use game::bounds::{Bounds, EVERYWHERE, Zone};
 use game::parts::{Edge, Location, Resets, TimedPosition};
+use regions::per_clock::PerClock;
 use regions::region::{ClockRegion, Region};
 use table::row::Row;
 
 /// Where a clock stands that the game does not have: past its ceiling 0.
 const ABSENT: ClockRegion = ClockRegion { whole: 1, class: 0 };
 
-/// `[0,-)`, the interval of such a clock.
-const EVERYTHING: Bounds = Bounds {
-    low: Bound { at: 0, open: false },
-    high: None,
-};
+/// The clocks by their numbers.
+pub(crate) const CLOCKS: PerClock<usize> = PerClock { x: 0, y: 1, z: 2 };
 
-/// The interval that the field is, or `[0,-)`.
+/// The interval that the field is, or `[0,-)`, which a clock has that is not there.
 fn bounds_of(field: &[u8]) -> Bounds
     ensures { result ≡ bounds field.now }
 {
-    read_interval(field).unwrap_or(EVERYTHING)
+    read_interval(field).unwrap_or(EVERYWHERE)
 }
 
 /// Whose edge it is.
@@ -42,22 +40,11 @@ fn side_of(field: &[u8]) -> Side
     }
 }
 
-/// Whether the i-th letter resets its clock.
-fn resets_at(letters: &[u8], i: usize) -> bool
-    ensures { result ≡ reset_at i letters.now }
-{
-    byte_at(letters, i) == b'r'
-}
-
 /// The clocks whose letters reset them.
 fn resets_of(letters: &[u8]) -> Resets
     ensures { result ≡ resets letters.now }
 {
-    Resets {
-        x: resets_at(letters, 0),
-        y: resets_at(letters, 1),
-        z: resets_at(letters, 2),
-    }
+    CLOCKS.map(|clock| byte_at(letters, clock) == b'r')
 }
 
 impl Line<'_> {
@@ -66,11 +53,7 @@ impl Line<'_> {
         requires { i ≤ 5 }
         ensures { result ≡ zone i (fields self.now.bytes.now) }
     {
-        Zone {
-            x: bounds_of(self.field(i)),
-            y: bounds_of(self.field(i + 1)),
-            z: bounds_of(self.field(i + 2)),
-        }
+        CLOCKS.map(|clock| bounds_of(self.field(i + clock)))
     }
 
     /// The location of a `loc` line.
@@ -133,12 +116,8 @@ impl RowLine<'_> {
     fn region(&self) -> Region
         ensures { result ≡ region self.now.clocks (fields self.now.line.bytes.now) }
     {
-        Region {
-            x: self.clock(0),
-            y: self.clock(1),
-            z: self.clock(2),
-            tick: self.line.clock(3 + 2 * self.clocks),
-        }
+        let tick = self.line.clock(3 + 2 * self.clocks);
+        CLOCKS.map(|clock| self.clock(clock)).with_tick(tick)
     }
 
     /// The row.

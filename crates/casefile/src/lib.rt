@@ -8,7 +8,7 @@ mod form;
 mod interval;
 mod item;
 mod layout;
-mod limits;
+pub mod limits;
 mod line;
 mod lines;
 pub mod reader;

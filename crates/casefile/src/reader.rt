@@ -10,6 +10,7 @@ ghost use Rattle.casefile.specs.Case.{holds, told, answers};
 use crate::case::{Case, ReadError};
 use crate::columns::fill_columns;
 use crate::draft::Draft;
+use crate::item::CLOCKS;
 use crate::limits::MAX_TEXT;
 use crate::room::Room;
 use crate::text::byte_at;
@@ -22,11 +23,7 @@ use timed::timed_game::TimedGame;
 fn all_ceilings(ceilings: &[u8]) -> Ceilings
     ensures { result ≡ ceilings_of ceilings.now }
 {
-    Ceilings {
-        x: byte_at(ceilings, 0),
-        y: byte_at(ceilings, 1),
-        z: byte_at(ceilings, 2),
-    }
+    CLOCKS.map(|clock| byte_at(ceilings, clock))
 }
 
 /// The case that the lines have said, if its game is sound: where lines have no fault, only the

@@ -39,11 +39,10 @@ fn main(rt: HostRuntime) -> io::Result<()> {
         return println!(rt; "not a case");
     };
     let mut walk = Walk::new(&case.game);
-    step(&rt, &mut walk, &case, 1)?;
-    step(&rt, &mut walk, &case, 2)?;
-    step(&rt, &mut walk, &case, 0)?;
+    for number in [1, 2, 0] {
+        step(&rt, &mut walk, &case, number)?;
+    }
     write_tally(&rt, walk.tally())?;
     step(&rt, &mut walk, &case, 0)?;
-    let closed = walk.close();
-    write_tally(&rt, closed)
+    write_tally(&rt, walk.close())
 }

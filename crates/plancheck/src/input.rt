@@ -1,9 +1,10 @@
 //! The case on standard input.
+use casefile::limits::MAX_TEXT;
 use std::io;
 use std::io::Read;
 
 /// One byte more than a text may have: enough to see that it is too long.
-const ENOUGH: u64 = 65_537;
+const ENOUGH: u64 = MAX_TEXT as u64 + 1;
 
 pub(crate) fn read_text(rt: &HostRuntime) -> io::Result<Vec<u8>> {
     let mut text = Vec::new(rt.alloc());

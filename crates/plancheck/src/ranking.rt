@@ -54,17 +54,10 @@ pub(crate) fn rank_input(rt: &HostRuntime) -> io::Result<()> {
         case.ranks.as_mut_slice(),
         losing.as_mut_slice(),
     );
+    tell(rt, ranked.into(), text.as_slice())?;
     match ranked {
-        Ok(answer) => {
-            tell(rt, Verdict::Accepted(answer), text.as_slice())?;
-            write_ranks(rt, case.ranks.as_slice(), n)
-        }
-        Err(fault) => {
-            tell(rt, Verdict::Refused(fault), text.as_slice())?;
-            match fault {
-                Fault::LosingLoop { length, .. } => write_loop(rt, losing.as_slice(), length),
-                _ => Ok(()),
-            }
-        }
+        Ok(_) => write_ranks(rt, case.ranks.as_slice(), n),
+        Err(Fault::LosingLoop { length, .. }) => write_loop(rt, losing.as_slice(), length),
+        Err(_) => Ok(()),
     }
 }
