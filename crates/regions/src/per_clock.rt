@@ -11,7 +11,7 @@ pub struct PerClock<T> {
     pub z: T,
 }
 
-impl<T: Copy> PerClock<T> {
+impl<T> PerClock<T> {
     /// These, and one for the tick clock.
     pub fn with_tick(self, tick: T) -> WithTick<T>
         ensures { result ≡ record { x = self.x; y = self.y; z = self.z; tick = tick } }
@@ -23,7 +23,9 @@ impl<T: Copy> PerClock<T> {
             tick,
         }
     }
+}
 
+impl<T: Copy> PerClock<T> {
     /// What `f` makes of each.
     pub fn map<U, F: Fn(T) -> U>(self, f: F) -> PerClock<U>
         requires x { F.pre f self.x }

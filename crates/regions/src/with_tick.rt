@@ -35,24 +35,17 @@ impl<T: Copy> WithTick<T> {
         ensures z { F.post f self.z result.z }
         ensures tick { F.post f self.tick result.tick }
     {
-        WithTick {
-            x: f(self.x),
-            y: f(self.y),
-            z: f(self.z),
-            tick: f(self.tick),
-        }
+        let tick = f(self.tick);
+        self.without_tick().map(f).with_tick(tick)
     }
 
     /// Each with its neighbour of the same clock.
     pub fn zip<U: Copy>(self, other: WithTick<U>) -> WithTick<(T, U)>
         ensures { result ≡ record { x = (self.x, other.x); y = (self.y, other.y); z = (self.z, other.z); tick = (self.tick, other.tick) } }
     {
-        WithTick {
-            x: (self.x, other.x),
-            y: (self.y, other.y),
-            z: (self.z, other.z),
-            tick: (self.tick, other.tick),
-        }
+        self.without_tick()
+            .zip(other.without_tick())
+            .with_tick((self.tick, other.tick))
     }
 }
 
@@ -68,6 +61,6 @@ impl WithTick<bool> {
     pub fn all(self) -> bool
         ensures { result ≡ (self.x && self.y && self.z && self.tick) }
     {
-        self.x && self.y && self.z && self.tick
+        self.without_tick().all() && self.tick
     }
 }

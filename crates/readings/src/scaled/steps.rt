@@ -91,29 +91,26 @@ impl Readings {
         self.ceilings.with_tick(TICK_CEILING).zip(self.grains)
     }
 
-    /// The most that a clock with this ceiling reads: one unit above it.
-    fn most(self, ceiling: u8) -> u32
-        requires { ceiling ≤ 15 }
-        ensures { result ≡ (ceiling + 1) * self.scale }
+    /// The most that each clock reads: one unit above its ceiling.
+    fn most(self) -> WithTick<u32>
+        ensures x { result.x ≡ (self.ceilings.x + 1) * self.scale }
+        ensures y { result.y ≡ (self.ceilings.y + 1) * self.scale }
+        ensures z { result.z ≡ (self.ceilings.z + 1) * self.scale }
+        ensures tick { result.tick ≡ (tick_ceiling + 1) * self.scale }
     {
-        (ceiling as u32 + 1) * self.scale
-    }
-
-    /// What a clock with this ceiling reads after a delay.
-    fn later_reading(self, ceiling: u8, reading: u32, delay: u32) -> u32
-        requires { ceiling ≤ 15 }
-        ensures { result ≡ min (reading + delay) ((ceiling + 1) * self.scale) }
-    {
-        reading.saturating_add(delay).min(self.most(ceiling))
+        self.ceilings
+            .with_tick(TICK_CEILING)
+            .map(|ceiling| (ceiling as u32 + 1) * self.scale)
     }
 
     /// The readings after a delay of so many grains.
     pub fn later(self, delay: u32) -> Readings
         ensures { view result ≡ delayed delay (view self) }
     {
-        let grains = self.clocks().map(|(ceiling, reading)| self.later_reading(
-            ceiling, reading, delay,
-        ));
+        let grains = self
+            .grains
+            .zip(self.most())
+            .map(|(reading, most)| reading.saturating_add(delay).min(most));
         Readings {
             ceilings: self.ceilings,
             scale: self.scale,
