@@ -1,9 +1,8 @@
 //! The check of a table with its ranks.
 ghost use Rattle.std.specs.Prelude.{◌≡◌, ◌<◌, ◌≤◌, true, [], length, is_ok, Decides};
-ghost use Rattle.table.specs.Rows.{outcomes_of, start_row};
+ghost use Rattle.table.specs.Rows.{outcomes_of};
 ghost use Rattle.table.specs.Check.{numbered, verdict, is_own, place_faults, start_faults, outcome_faults, move_faults, outcomes_in, judged, checked};
 ghost use Rattle.table.specs.Accepts.{Accepts};
-ghost use Rattle.plan.specs.Index.{Sound};
 ghost use Rattle.plan.specs.Passages.{passage_at, passages_at, passages_in, Ready, Shown};
 
 use crate::index::IndexedRows;
@@ -26,129 +25,134 @@ fn is_own<A: Arena>(arena: &A, row: &Row<A::Position>) -> bool
         && row.latch <= MAX_LATCH
 }
 
-/// Tests where row s stands.
-fn check_place<A: Arena>(
-    table: &IndexedRows<'_, '_, A>,
-    s: usize,
-    row: &Row<A::Position>,
-) -> Result<(), Fault>
-    requires { (Sound A.Arena.meaning table.now) × (s < length table.now.rows.now) }
-    ensures { result ≡ verdict tt (place_faults (A.Arena.meaning table.now.arena.now) table.now.rows.now s row.now) }
-{
-    if !is_own(table.arena, row) {
-        return Err(Fault::NotOwn { row: s as u16 });
-    }
-    match table.row_of(&row.position, row.latch) {
-        Some(t) if t < s => Err(Fault::Repeated { row: s as u16 }),
-        _ => Ok(()),
-    }
-}
-
-/// Tests where each row stands.
-fn check_places<A: Arena>(table: &IndexedRows<'_, '_, A>) -> Result<(), Fault>
-    requires { Sound A.Arena.meaning table.now }
-    ensures { result ≡ verdict tt (numbered (place_faults (A.Arena.meaning table.now.arena.now) table.now.rows.now) 0 table.now.rows.now) }
-{
-    for (s, row) in table.rows.iter().enumerate() {
-        check_place(table, s, row)?;
-    }
-    Ok(())
-}
-
-/// Tests that the start has a row.
-fn check_start<A: Arena>(table: &IndexedRows<'_, '_, A>) -> Result<(), Fault>
-    requires { Sound A.Arena.meaning table.now }
-    ensures { result ≡ verdict tt (start_faults (A.Arena.meaning table.now.arena.now) table.now.rows.now) }
-{
-    let start = table.arena.start();
-    let latch = table.arena.priority(&start);
-    let Some(_) = table.row_of(&start, latch) else {
-        return Err(Fault::NoStartRow);
-    };
-    Ok(())
-}
-
-/// Tests one outcome of the move of row s, which has this latch, and shows where it leads.
-fn check_outcome<A: Arena, V: Visitor>(
-    table: &IndexedRows<'_, '_, A>,
-    visitor: &mut V,
-    s: usize,
+/// An outcome of a row's move: the number and the latch of the row, and the outcome with its own number.
+#[derive(Drop)]
+struct Branch<'o, P> {
+    row: u16,
     latch: u8,
     number: u16,
-    outcome: &Outcome<A::Position>,
-) -> Result<(), Fault>
-    requires sound { Sound A.Arena.meaning table.now }
-    requires there { (s < length table.now.rows.now) × (latch ≤ 5) }
-    requires ready { Ready V.Visitor.seen (length table.now.rows.now) s visitor.old }
-    ensures answers { result ≡ verdict tt (outcome_faults (A.Arena.meaning table.now.arena.now) table.now.rows.now (V.Visitor.rule visitor.old (length table.now.rows.now)) s latch number outcome.now) }
-    ensures same { V.Visitor.rule visitor.new ≡ V.Visitor.rule visitor.old }
-    ensures shown { Shown V.Visitor.seen (length table.now.rows.now) s (passage_at (A.Arena.meaning table.now.arena.now) table.now.rows.now s latch number outcome.now) result visitor.old visitor.new }
-{
-    let next = latch_after(table.arena, latch, outcome);
-    let Some(t) = table.row_of(&outcome.position, next) else {
-        return Err(Fault::NoRow {
-            row: s as u16,
-            outcome: number,
-        });
-    };
-    let passage = Passage {
-        from: s as u16,
-        outcome: number,
-        colour: colour_of(latch, outcome),
-        to: t as u16,
-    };
-    if visitor.visit(table.rows.len(), passage) {
+    outcome: &'o Outcome<P>,
+}
+
+impl<'a, 'r, A: Arena> IndexedRows<'a, 'r, A> {
+    /// Tests where row s stands.
+    fn check_place(&self, s: u16, row: &Row<A::Position>) -> Result<(), Fault>
+        ensures { result ≡ verdict tt (place_faults (A.Arena.meaning self.now.arena.now) self.now.rows.now s row.now) }
+    {
+        if !is_own(self.arena, row) {
+            return Err(Fault::NotOwn { row: s });
+        }
+        match self.row_of(&row.position, row.latch) {
+            Some(t) if t < s => Err(Fault::Repeated { row: s }),
+            _ => Ok(()),
+        }
+    }
+
+    /// Tests where each row stands.
+    fn check_places(&self) -> Result<(), Fault>
+        ensures { result ≡ verdict tt (numbered (place_faults (A.Arena.meaning self.now.arena.now) self.now.rows.now) 0 self.now.rows.now) }
+    {
+        for (s, row) in self.rows.iter().enumerate() {
+            self.check_place(s as u16, row)?;
+        }
         Ok(())
-    } else {
-        Err(Fault::RankRule {
-            row: s as u16,
+    }
+
+    /// Tests that the start has a row.
+    fn check_start(&self) -> Result<(), Fault>
+        ensures { result ≡ verdict tt (start_faults (A.Arena.meaning self.now.arena.now) self.now.rows.now) }
+    {
+        let start = self.arena.start();
+        match self.row_of(&start, self.arena.priority(&start)) {
+            Some(_) => Ok(()),
+            None => Err(Fault::NoStartRow),
+        }
+    }
+
+    /// Tests one outcome of a row's move, and shows where it leads.
+    fn check_outcome<V: Visitor>(
+        &self,
+        visitor: &mut V,
+        branch: Branch<'_, A::Position>,
+    ) -> Result<(), Fault>
+        requires there { (branch.row < length self.now.rows.now) × (branch.latch ≤ 5) }
+        requires ready { Ready V.Visitor.seen (length self.now.rows.now) branch.row visitor.old }
+        ensures answers { result ≡ verdict tt (outcome_faults (A.Arena.meaning self.now.arena.now) self.now.rows.now (V.Visitor.rule visitor.old (length self.now.rows.now)) branch.entry.row branch.entry.latch branch.entry.number branch.entry.outcome.now) }
+        ensures same { V.Visitor.rule visitor.new ≡ V.Visitor.rule visitor.old }
+        ensures shown { Shown V.Visitor.seen (length self.now.rows.now) branch.entry.row (passage_at (A.Arena.meaning self.now.arena.now) self.now.rows.now branch.entry.row branch.entry.latch branch.entry.number branch.entry.outcome.now) result visitor.old visitor.new }
+    {
+        let Branch {
+            row,
+            latch,
+            number,
+            outcome,
+        } = branch;
+        let next = latch_after(self.arena, latch, outcome);
+        let Some(to) = self.row_of(&outcome.position, next) else {
+            return Err(Fault::NoRow {
+                row,
+                outcome: number,
+            });
+        };
+        let passage = Passage {
+            from: row,
             outcome: number,
-        })
+            colour: colour_of(latch, outcome),
+            to,
+        };
+        if visitor.visit(self.rows.len(), passage) {
+            Ok(())
+        } else {
+            Err(Fault::RankRule {
+                row,
+                outcome: number,
+            })
+        }
     }
-}
 
-/// Tests the move of row s, shows where its outcomes lead and tells how many there are.
-fn check_move<A: Arena, V: Visitor>(
-    table: &IndexedRows<'_, '_, A>,
-    visitor: &mut V,
-    s: usize,
-    row: &Row<A::Position>,
-) -> Result<u16, Fault>
-    requires sound { Sound A.Arena.meaning table.now }
-    requires there { (s < length table.now.rows.now) × (row.now.latch ≤ 5) }
-    requires ready { Ready V.Visitor.seen (length table.now.rows.now) s visitor.old }
-    ensures answers { result ≡ verdict (length (outcomes_of (A.Arena.meaning table.now.arena.now) row.now)) (move_faults (A.Arena.meaning table.now.arena.now) table.now.rows.now (V.Visitor.rule visitor.old (length table.now.rows.now)) s row.now) }
-    ensures same { V.Visitor.rule visitor.new ≡ V.Visitor.rule visitor.old }
-    ensures shown { Shown V.Visitor.seen (length table.now.rows.now) s (passages_at (A.Arena.meaning table.now.arena.now) table.now.rows.now s row.now) result visitor.old visitor.new }
-{
-    if !table.arena.legal(&row.position, row.choice) {
-        return Err(Fault::IllegalMove { row: s as u16 });
+    /// Tests the move of row s, shows where its outcomes lead and tells how many there are.
+    fn check_move<V: Visitor>(
+        &self,
+        visitor: &mut V,
+        s: u16,
+        row: &Row<A::Position>,
+    ) -> Result<u16, Fault>
+        requires there { (s < length self.now.rows.now) × (row.now.latch ≤ 5) }
+        requires ready { Ready V.Visitor.seen (length self.now.rows.now) s visitor.old }
+        ensures answers { result ≡ verdict (length (outcomes_of (A.Arena.meaning self.now.arena.now) row.now)) (move_faults (A.Arena.meaning self.now.arena.now) self.now.rows.now (V.Visitor.rule visitor.old (length self.now.rows.now)) s row.now) }
+        ensures same { V.Visitor.rule visitor.new ≡ V.Visitor.rule visitor.old }
+        ensures shown { Shown V.Visitor.seen (length self.now.rows.now) s (passages_at (A.Arena.meaning self.now.arena.now) self.now.rows.now s row.now) result visitor.old visitor.new }
+    {
+        if !self.arena.legal(&row.position, row.choice) {
+            return Err(Fault::IllegalMove { row: s });
+        }
+        let mut number = 0;
+        for outcome in self.arena.outcomes(&row.position, row.choice) {
+            let branch = Branch {
+                row: s,
+                latch: row.latch,
+                number,
+                outcome: &outcome,
+            };
+            self.check_outcome(visitor, branch)?;
+            number += 1;
+        }
+        Ok(number)
     }
-    let mut listing = table.arena.list(&row.position, row.choice);
-    let mut number = 0;
-    while let Some(outcome) = table.arena.next(&mut listing) {
-        check_outcome(table, visitor, s, row.latch, number, &outcome)?;
-        number += 1;
-    }
-    Ok(number)
-}
 
-/// Tests the move of each row, shows where all outcomes lead and tells how many there are.
-fn check_moves<A: Arena, V: Visitor>(
-    table: &IndexedRows<'_, '_, A>,
-    visitor: &mut V,
-) -> Result<u32, Fault>
-    requires sound { Sound A.Arena.meaning table.now }
-    requires places { numbered (place_faults (A.Arena.meaning table.now.arena.now) table.now.rows.now) 0 table.now.rows.now ≡ [] }
-    requires fresh { V.Visitor.seen visitor.old (length table.now.rows.now) [] }
-    ensures answers { result ≡ verdict (outcomes_in (A.Arena.meaning table.now.arena.now) table.now.rows.now) (numbered (move_faults (A.Arena.meaning table.now.arena.now) table.now.rows.now (V.Visitor.rule visitor.old (length table.now.rows.now))) 0 table.now.rows.now) }
-    ensures shown { is_ok result ≡ true → V.Visitor.seen visitor.new (length table.now.rows.now) (passages_in (A.Arena.meaning table.now.arena.now) table.now.rows.now) }
-{
-    let mut outcomes = 0;
-    for (s, row) in table.rows.iter().enumerate() {
-        outcomes += check_move(table, visitor, s, row)? as u32;
+    /// Tests the move of each row, shows where all outcomes lead and tells how many there are.
+    fn check_moves<V: Visitor>(&self, visitor: &mut V) -> Result<u32, Fault>
+        requires places { numbered (place_faults (A.Arena.meaning self.now.arena.now) self.now.rows.now) 0 self.now.rows.now ≡ [] }
+        requires fresh { V.Visitor.seen visitor.old (length self.now.rows.now) [] }
+        ensures answers { result ≡ verdict (outcomes_in (A.Arena.meaning self.now.arena.now) self.now.rows.now) (numbered (move_faults (A.Arena.meaning self.now.arena.now) self.now.rows.now (V.Visitor.rule visitor.old (length self.now.rows.now))) 0 self.now.rows.now) }
+        ensures shown { is_ok result ≡ true → V.Visitor.seen visitor.new (length self.now.rows.now) (passages_in (A.Arena.meaning self.now.arena.now) self.now.rows.now) }
+    {
+        let mut outcomes = 0;
+        for (s, row) in self.rows.iter().enumerate() {
+            outcomes += self.check_move(visitor, s as u16, row)? as u32;
+        }
+        Ok(outcomes)
     }
-    Ok(outcomes)
 }
 
 /// Tests a table under the visitor's rule and shows it all passages: answers the numbers of rows and of all outcomes, or
@@ -168,9 +172,9 @@ pub fn survey<A: Arena, V: Visitor>(
         return Err(Fault::WrongLengths);
     }
     let table = IndexedRows::new(arena, rows);
-    check_places(&table)?;
-    check_start(&table)?;
-    let outcomes = check_moves(&table, visitor)?;
+    table.check_places()?;
+    table.check_start()?;
+    let outcomes = table.check_moves(visitor)?;
     Ok(Accepted {
         rows: rows.len() as u32,
         outcomes,

@@ -1,7 +1,8 @@
 //! Rows found by their position and latch without a look at all of them.
-ghost use Rattle.std.specs.Prelude.{◌≡◌, ◌<◌, ◌≤◌, length, slice_index, slice_set};
-ghost use Rattle.table.specs.Rows.{is_for, first_row};
-ghost use Rattle.plan.specs.Index.{bucket_of, Sound};
+ghost use Rattle.std.specs.Prelude.{◌≡◌, ◌<◌, ◌≤◌, length, Some, None, slice_index_or, slice_set};
+ghost use Rattle.std.proofs.Props.{props};
+ghost use Rattle.table.specs.Rows.{first_row};
+ghost use Rattle.plan.specs.Index.{bucket_of, Indexes};
 
 use arena::arena::Arena;
 use table::row::{MAX_ROWS, Row};
@@ -18,30 +19,22 @@ fn bucket_of<A: Arena>(arena: &A, position: &A::Position, latch: u8) -> usize
     (arena.digest(position) as usize + STRIDE * latch as usize) % BUCKETS
 }
 
-/// Whether a row is for this position and latch.
-fn is_for<A: Arena>(arena: &A, row: &Row<A::Position>, position: &A::Position, latch: u8) -> bool
-    ensures { result ≡ is_for (A.Arena.meaning arena.now) position.now latch row.now }
-{
-    row.latch == latch && arena.same(&row.position, position)
-}
-
-/// Rows in buckets: the first row of each bucket, and for each row the next one of its bucket. The number of rows stands
-/// for none.
+/// Rows in buckets: the first row of each bucket, and for each row the next one of its bucket.
 #[derive(Clone, Copy)]
-pub(crate) struct Buckets {
-    pub(crate) heads: [u16; BUCKETS],
-    pub(crate) links: [u16; MAX_ROWS],
+struct Buckets {
+    heads: [Option<u16>; BUCKETS],
+    links: [Option<u16>; MAX_ROWS],
 }
 
 impl Buckets {
     /// Puts row s before the rows of a bucket.
     fn push(&mut self, bucket: usize, s: usize)
         requires { (bucket < 1021) × (s < 1024) }
-        ensures heads { self.new.heads ≡ slice_set self.old.heads bucket s }
-        ensures links { self.new.links ≡ slice_set self.old.links s (slice_index self.old.heads bucket) }
+        ensures heads { self.new.heads ≡ slice_set self.old.heads bucket (Some s) }
+        ensures links { self.new.links ≡ slice_set self.old.links s (slice_index_or self.old.heads bucket None) }
     {
         self.links[s] = self.heads[bucket];
-        self.heads[bucket] = s as u16;
+        self.heads[bucket] = Some(s as u16);
     }
 }
 
@@ -50,7 +43,9 @@ impl Buckets {
 pub(crate) struct IndexedRows<'a, 'r, A: Arena> {
     pub(crate) arena: &'a A,
     pub(crate) rows: &'r [Row<A::Position>],
-    pub(crate) buckets: Buckets,
+    buckets: Buckets,
+    ghost few: { length rows.now ≤ 1024 },
+    ghost indexed: { Indexes (A.Arena.meaning arena.now) rows.now 0 buckets.heads buckets.links } by { Prim.hlevel props },
 }
 
 impl<'a, 'r, A: Arena> IndexedRows<'a, 'r, A> {
@@ -59,14 +54,12 @@ impl<'a, 'r, A: Arena> IndexedRows<'a, 'r, A> {
         requires { length rows.now ≤ 1024 }
         ensures arena { result.arena.now ≡ arena.now }
         ensures rows { result.rows.now ≡ rows.now }
-        ensures index { Sound A.Arena.meaning result }
     {
         let mut buckets = Buckets {
-            heads: [rows.len() as u16; BUCKETS],
-            links: [0; MAX_ROWS],
+            heads: [None; BUCKETS],
+            links: [None; MAX_ROWS],
         };
-        for s in (0..rows.len()).rev() {
-            let row = &rows[s];
+        for (s, row) in rows.iter().enumerate().rev() {
             buckets.push(bucket_of(arena, &row.position, row.latch), s);
         }
         IndexedRows {
@@ -77,16 +70,15 @@ impl<'a, 'r, A: Arena> IndexedRows<'a, 'r, A> {
     }
 
     /// The number of the first row with this position and latch.
-    pub(crate) fn row_of(&self, position: &A::Position, latch: u8) -> Option<usize>
-        requires { Sound A.Arena.meaning self.now }
+    pub(crate) fn row_of(&self, position: &A::Position, latch: u8) -> Option<u16>
         ensures { result ≡ first_row (A.Arena.meaning self.now.arena.now) self.now.rows.now position.now latch }
     {
-        let mut at = self.buckets.heads[bucket_of(self.arena, position, latch)] as usize;
-        while at < self.rows.len() {
-            if is_for(self.arena, &self.rows[at], position, latch) {
-                return Some(at);
+        let mut next = self.buckets.heads[bucket_of(self.arena, position, latch)];
+        while let Some(s) = next {
+            if self.rows[s as usize].stands_at(self.arena, position, latch) {
+                return Some(s);
             }
-            at = self.buckets.links[at] as usize;
+            next = self.buckets.links[s as usize];
         }
         None
     }

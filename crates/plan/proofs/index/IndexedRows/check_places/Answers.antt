@@ -2,11 +2,11 @@ use Rattle.std.proofs.Common.{arith}
 use Rattle.std.proofs.lemmas.Result.{err_from_is_err_and}
 use Rattle.table.specs.Check.{place_faults}
 use Rattle.plan.proofs.Turns.{turn_more, turn_err, turn_end}
-use Rattle.plan.proofs.check.check_places.Goals as goal
+use Rattle.plan.proofs.index.IndexedRows.check_places.Goals as goal
 
 pub returns-in_err-check_place : goal.returns-in_err-check_place
 returns-in_err-check_place g c =
-    let table = c.args.table.now in
+    let table = c.args.self.now in
     let F = place_faults (g.A.Arena.meaning table.arena.now) table.rows.now in
     let p = err_from_is_err_and c.from_residual.result c.from_residual.ensures.1 in
     rw (p.1, p.2)
@@ -14,12 +14,12 @@ returns-in_err-check_place g c =
 
 pub loop-s-preserved : goal.loop-s-preserved
 loop-s-preserved g c =
-    let table = c.args.table.now in
+    let table = c.args.self.now in
     let F = place_faults (g.A.Arena.meaning table.arena.now) table.rows.now in
     turn_more F table.rows.now tt tt c.loop-s.s c.row-item.result (omega arith) c.row-item.is c.in_ok-check_place.ensures c.loop-s.invariant
 
 pub returns : goal.returns
 returns g c =
-    let table = c.args.table.now in
+    let table = c.args.self.now in
     let F = place_faults (g.A.Arena.meaning table.arena.now) table.rows.now in
     rw (turn_end F table.rows.now c.loop-s.s (omega arith) c.loop-s.invariant)

@@ -8,28 +8,27 @@ use Rattle.table.proofs.Bounds.{small_latch}
 use Rattle.table.proofs.Lists.{verdict_ok}
 use Rattle.plan.proofs.Turns.{turn_err, sum_more, sum_end}
 use Rattle.plan.proofs.Visits.{past_none, past_more, same_past, past_all}
-use Rattle.plan.proofs.check.check_moves.Goals as goal
+use Rattle.plan.proofs.index.IndexedRows.check_moves.Goals as goal
 
 pub loop-s-init : goal.loop-s-init
 loop-s-init g c =
-    let table = c.args.table.now in
+    let table = c.args.self.now in
     (past_none (g.A.Arena.meaning table.arena.now) table.rows.now g.V.Visitor.rule g.V.Visitor.seen c.args.visitor.now c.requires.fresh, omega arith, omega arith)
 
 pub check_move-requires : goal.check_move-requires
 check_move-requires g c =
-    let table = c.args.table.now in
+    let table = c.args.self.now in
     let rows = table.rows.now in
     let m = g.A.Arena.meaning table.arena.now in
     let t = c.loop-s.invariant.0 in
     record {
-      sound = c.requires.sound;
       there = (omega arith, small_latch m rows c.requires.places c.loop-s.s c.row-item.result (slice_get_read rows (length rows) c.loop-s.s c.row-item.result refl (omega arith) c.row-item.is));
       ready = (t.behind, (t.shown, t.upto));
     }
 
 pub returns-in_err-outcomes : goal.returns-in_err-outcomes
 returns-in_err-outcomes g c =
-    let table = c.args.table.now in
+    let table = c.args.self.now in
     let rows = table.rows.now in
     let m = g.A.Arena.meaning table.arena.now in
     let was = c.args.visitor.now in
@@ -44,7 +43,7 @@ returns-in_err-outcomes g c =
 
 pub loop-s-preserved : goal.loop-s-preserved
 loop-s-preserved g c =
-    let table = c.args.table.now in
+    let table = c.args.self.now in
     let rows = table.rows.now in
     let m = g.A.Arena.meaning table.arena.now in
     let s = c.loop-s.s in
@@ -60,7 +59,7 @@ loop-s-preserved g c =
 
 pub returns : goal.returns
 returns g c =
-    let table = c.args.table.now in
+    let table = c.args.self.now in
     let rows = table.rows.now in
     let m = g.A.Arena.meaning table.arena.now in
     let t = past_all m rows g.V.Visitor.rule g.V.Visitor.seen c.args.visitor.now c.loop-s.visitor c.loop-s.s (omega arith) c.loop-s.invariant.0 in
