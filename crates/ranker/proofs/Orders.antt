@@ -47,17 +47,15 @@ gone_down (x ∷ ks) s t y =
       λ k a b. has_first_or_later x k ks (λ ne. r.2 k a (omega (arith, y.1.1.1, y.1.1.2))),
     )
 
-pub covers_up : (n : ℕ) → Covers up (record { start = 0; end = n }) n
-covers_up n =
+pub covers_up : (n : ℕ) (s : Range ℕ) → s.start ≡ 0 → s.end ≡ n → Covers up s n
+covers_up n s low high =
     record {
-      within = λ ks t u k y step. omega (arith, (gone_up ks _ t y).0, step.1.0, step.1.1);
-      whole = λ ks t u y step k b. let r = gone_up ks _ t y in r.2 k (omega arith) (omega (arith, r.0, step.1.0));
+      within = λ ks t u k y step. omega (arith, (gone_up ks s t y).0, step.1.0, step.1.1);
+      whole = λ ks t u y step k b. let r = gone_up ks s t y in r.2 k (omega arith) (omega (arith, r.0, step.1.0));
     }
 
-pub covers_down : (n : ℕ) (s : Rev (Range ℕ)) → rev_source s ≡ record { start = 0; end = n } → Covers down s n
-covers_down n s e =
-    let low : (rev_source s).start ≡ 0 = ap (λ (r : Range ℕ). r.start) e in
-    let high : (rev_source s).end ≡ n = ap (λ (r : Range ℕ). r.end) e in
+pub covers_down : (n : ℕ) (s : Rev (Range ℕ)) → (rev_source s).start ≡ 0 → (rev_source s).end ≡ n → Covers down s n
+covers_down n s low high =
     record {
       within = λ ks t u k y step. let r = gone_down ks s t y in omega (arith, r.1, step.1.0, step.1.1, step.1.2);
       whole = λ ks t u y step k b. let r = gone_down ks s t y in r.2 k (omega (arith, r.0, step.1.0)) (omega arith);

@@ -1,5 +1,5 @@
 -- What the ranker's parts come to.
-use Rattle.std.proofs.Common.{◌≡◌, ℕ, ◌+◌, ◌*◌, ◌%◌, ◌≤◌, true, false, eqb, leb, List, [], length, get_or, is_ok, Ok, Err, Decides, Result, sym, refl, ap, ◌∙◌, subst, inl, inr}
+use Rattle.std.proofs.Common.{◌≡◌, ℕ, ◌+◌, ◌*◌, ◌%◌, ◌^◌, ◌≤◌, true, false, eqb, leb, List, [], length, get_or, is_ok, Ok, Err, IsTrue, ◌↔◌, Result, Option, sym, refl, ap, ◌∙◌, subst, inl, inr}
 use Rattle.std.proofs.lemmas.Bool.{and_parts, eqb-true, leb-true, both_ways}
 use Rattle.arena.specs.Meaning.{Meaning}
 use Rattle.table.specs.declared.row.Row.{Row}
@@ -8,34 +8,42 @@ use Rattle.table.specs.declared.fault.Fault.{Fault}
 use Rattle.table.specs.Ranks.{rank_of}
 use Rattle.table.specs.Check.{judged, outcomes_in}
 use Rattle.table.proofs.Lists.{verdict_ok}
+use Rattle.plan.specs.declared.passage.Passage.{Passage}
+use Rattle.plan.specs.Passages.{passages_in}
 use Rattle.loops.specs.declared.pair.Pair.{Pair}
 use Rattle.loops.specs.Table.{graph_of, any_round, WellFormed}
 use Rattle.loops.proofs.Arcs.{few_rows}
 use Rattle.loops.proofs.Tables.{KeepsAll, fitting, place_of, by_place, kept_checked, kept_no_loop}
+use Rattle.ranker.specs.Arcs.{Tells}
 use Rattle.ranker.specs.Lifts.{Smallest}
+use Rattle.ranker.specs.Notes.{Noted}
 use Rattle.ranker.specs.Loops.{Drafted}
 use Rattle.ranker.specs.Ranked.{form_faults, Fills, Refutes, Ranked, Sound}
 use Rattle.ranker.specs.Ranked as ranked
+use Rattle.ranker.proofs.Noting.{noted_few}
+use Rattle.ranker.proofs.Telling.{noted_tells}
 
 module _ {P : Type 0} (m : Meaning P) (rows : List (Row P)) (ranks : List ℕ) (losing : List Pair) (a : Accepted)
     (fine : Ok a ≡ judged m rows any_round (ranked.fitting m rows ranks losing)) where
   formed : form_faults m rows ranks losing ≡ []
   formed = (verdict_ok _ a (form_faults m rows ranks losing) fine).0
 
-  pub well : WellFormed m rows
+  well : WellFormed m rows
   well = (fitting m rows any_round (ranked.fitting m rows ranks losing) formed).1
 
   lengths : (eqb (length ranks) (4 * length rows) ≡ true) × (leb (length rows) (length losing) ≡ true)
   lengths = and_parts _ _ (fitting m rows any_round (ranked.fitting m rows ranks losing) formed).0
 
-  pub few : length rows ≤ 1024
-  few = few_rows m rows any_round well
-
-  pub four : length ranks ≡ 4 * length rows
+  four : length ranks ≡ 4 * length rows
   four = eqb-true _ _ lengths.0
 
-  pub enough : length rows ≤ length losing
-  enough = leb-true _ _ lengths.1
+  -- the arcs noted from all its passages
+  module _ (arcs noted : List Passage) (stamps : List (Option ℕ)) (same : arcs ≡ noted) (all : Noted (length rows) (passages_in m rows) noted stamps) where
+    pub told : Tells (length rows) arcs (graph_of m rows)
+    told = rw same (noted_tells m rows well noted stamps all)
+
+    pub fit : (length arcs ≤ 2 ^ 24) × ((length rows ≤ 1024) × ((length ranks ≡ 4 * length rows) × (length rows ≤ length losing)))
+    fit = (rw same (noted_few (length rows) _ noted stamps all), (few_rows m rows any_round well, (four, leb-true _ _ lengths.1)))
 
   module _ (ranks' : List ℕ) (losing' : List Pair) where
     -- a losing loop
@@ -46,7 +54,7 @@ module _ {P : Type 0} (m : Meaning P) (rows : List (Row P)) (ranks : List ℕ) (
           subst F (sym formed)
           (inr (record { length = d.0; colour = d.1.0; answer = is ∙ ap Err d.1.1.0; written = d.1.1.1; least = d.1.1.2; rest = rest }))
 
-      pub refuted_exact : Decides (is_ok r) (Sound m rows ranks losing)
+      pub refuted_exact : IsTrue (is_ok r) ↔ Sound m rows ranks losing
       refuted_exact =
           let no : is_ok r ≡ false = ap is_ok is in
           (λ e. absurd (both_ways (is_ok r) no e), λ s. absurd (s.1 (d.1.0, d.1.1.1.loop, d.1.1.1.losing)))
@@ -76,5 +84,5 @@ module _ {P : Type 0} (m : Meaning P) (rows : List (Row P)) (ranks : List ℕ) (
             rest = d.1;
           }))
 
-      pub filled_exact : Decides (is_ok {E = Fault} (Ok a)) (Sound m rows ranks losing)
+      pub filled_exact : IsTrue (is_ok {E = Fault} (Ok a)) ↔ Sound m rows ranks losing
       filled_exact = (λ _. (formed, λ l. kept_no_loop m rows any_round well ranks' keeps l.0 l.1 l.2), λ _. refl)

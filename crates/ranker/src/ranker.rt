@@ -1,5 +1,5 @@
 //! The ranker.
-ghost use Rattle.std.specs.Prelude.{◌≡◌, ℕ, ◌*◌, ◌%◌, ◌^◌, ◌<◌, ◌≤◌, false, List, length, is_ok, Decides};
+ghost use Rattle.std.specs.Prelude.{◌≡◌, ℕ, ◌*◌, ◌%◌, ◌^◌, ◌<◌, ◌≤◌, false, List, length, is_ok, IsTrue, ◌↔◌};
 ghost use Rattle.table.specs.Odd.{odd};
 ghost use Rattle.loops.specs.Graph.{Graph};
 ghost use Rattle.ranker.specs.Arcs.{Tells, Told};
@@ -76,7 +76,7 @@ fn rank_arcs(
     ensures rest { is_ok result ≡ false → ranks.new ≡ ranks.old }
 {
     let mut room = [0; MAX_RANKS];
-    let draft = &mut room[0..RANKS_PER_ROW * n];
+    let draft = &mut room[..RANKS_PER_ROW * n];
     draft_ranks(arcs, n, draft, losing)?;
     ranks.copy_from_slice(draft);
     Ok(())
@@ -92,7 +92,7 @@ pub fn rank_with<A: Arena>(
     losing: &mut [Pair],
 ) -> Result<Accepted, Fault>
     ensures ranked { Ranked (A.Arena.meaning arena.now) rows.now ranks.old losing.old (form_faults (A.Arena.meaning arena.now) rows.now ranks.old losing.old) result ranks.new losing.new }
-    ensures exact { Decides (is_ok result) (Sound (A.Arena.meaning arena.now) rows.now ranks.old losing.old) }
+    ensures exact { IsTrue (is_ok result) ↔ Sound (A.Arena.meaning arena.now) rows.now ranks.old losing.old }
 {
     let mut notes = Notes {
         scratch,

@@ -1,14 +1,16 @@
-use Rattle.std.proofs.Common.{length, sym, ◌∙◌}
+use Rattle.std.proofs.Common.{ℕ, sym, ap, ◌∙◌, arith}
+use Rattle.std.specs.declared.ops.Range.{Range}
 use Rattle.ranker.proofs.Orders.{covers_up, covers_down}
 use Rattle.ranker.proofs.Sweeps.{settled}
 use Rattle.ranker.proofs.lifting.Lifting.settle.Goals as goal
 use Rattle.ranker.proofs.lifting.Lifting.settle.Goals.{then-forward, else-forward}
 
 pub sweep-requires-clause-covers : goal.sweep-requires-clause-covers
-sweep-requires-clause-covers c = rw c.loop-forward.invariant.2 (covers_up (length c.loop-forward.self.arcs.now))
+sweep-requires-clause-covers c = covers_up _ _ (omega arith) (omega (arith, c.loop-forward.invariant.2))
 
 pub sweep-requires-else-forward-clause-covers : goal.sweep-requires-else-forward-clause-covers
-sweep-requires-else-forward-clause-covers c = rw (← c.loop-forward.invariant.2) (covers_down _ c.rev.result c.rev.ensures.source)
+sweep-requires-else-forward-clause-covers c =
+    covers_down _ c.rev.result (omega (arith, ap (λ (r : Range ℕ). r.start) c.rev.ensures.source)) (omega (arith, ap (λ (r : Range ℕ). r.end) c.rev.ensures.source, c.loop-forward.invariant.2))
 
 pub returns-clause-settled : goal.returns-clause-settled
 returns-clause-settled c =
