@@ -10,7 +10,7 @@ use Rattle.std.proofs.ByRecursion.{has_append_right}
 use Rattle.std.proofs.lemmas.Bool.{cases_eq}
 use Rattle.ranker.specs.Lifts.{Covers}
 
-has_first : (x : ℕ) (xs : List ℕ) → ContainsAt (x ∷ xs) x
+pub has_first : {X : Type 0} (x : X) (xs : List X) → ContainsAt (x ∷ xs) x
 has_first x xs = (0, omega arith, λ d. refl)
 
 has_first_or_later : (x k : ℕ) (xs : List ℕ) → ((k ≡ x → ⊥) → ContainsAt xs k) → ContainsAt (x ∷ xs) k

@@ -17,6 +17,7 @@ use Rattle.loops.specs.Table.{graph_of, any_round, WellFormed}
 use Rattle.loops.proofs.Arcs.{arc, arc_to, arc_colour, count_at, closed}
 use Rattle.ranker.specs.Arcs.{arc_at, Tells}
 use Rattle.ranker.specs.Notes.{Noted}
+use Rattle.ranker.proofs.Orders.{has_first}
 
 -- what is in two lists one after the other
 has_append_cases : {X : Type 0} (xs ys : List X) (x : X) → ContainsAt (xs ++ ys) x → ContainsAt xs x ⊎ ContainsAt ys x
@@ -25,9 +26,6 @@ has_append_cases xs ys x h =
     (λ (b : h.0 < length xs). inl (h.0, b, λ d. sym (get_or_append_left xs ys d h.0 b) ∙ h.2 d))
     (λ (b : length xs ≤ h.0). inr (h.0 - length xs, omega (arith, h.1, length-append xs ys), λ d. sym (get_or-append_right xs ys (length xs) h.0 d refl b) ∙ h.2 d))
     (cases_lt h.0 (length xs))
-
-has_first : {X : Type 0} (x : X) (xs : List X) → ContainsAt (x ∷ xs) x
-has_first x xs = (0, omega arith, λ d. refl)
 
 module _ {X Y : Type 0} (f : ℕ → X → List Y) where
   -- what is in a numbered list comes from one of its numbers, and back
