@@ -1,5 +1,5 @@
 -- What the ranker's parts come to.
-use Rattle.std.proofs.Common.{◌≡◌, ℕ, ◌+◌, ◌*◌, ◌%◌, ◌^◌, ◌≤◌, true, false, eqb, leb, List, [], length, get_or, is_ok, Ok, Err, IsTrue, ◌↔◌, Result, Option, sym, refl, ap, ◌∙◌, subst, inl, inr}
+use Rattle.std.proofs.Common.{◌≡◌, ℕ, ◌*◌, ◌%◌, ◌^◌, ◌≤◌, true, false, eqb, leb, List, [], length, is_ok, Ok, Err, IsTrue, ◌↔◌, Result, Option, sym, refl, ap, ◌∙◌, subst, inl, inr}
 use Rattle.std.proofs.lemmas.Bool.{and_parts, eqb-true, leb-true, both_ways}
 use Rattle.arena.specs.Meaning.{Meaning}
 use Rattle.table.specs.declared.row.Row.{Row}
@@ -13,7 +13,7 @@ use Rattle.plan.specs.Passages.{passages_in}
 use Rattle.loops.specs.declared.pair.Pair.{Pair}
 use Rattle.loops.specs.Table.{graph_of, any_round, WellFormed}
 use Rattle.loops.proofs.Arcs.{few_rows}
-use Rattle.loops.proofs.Tables.{KeepsAll, fitting, place_of, by_place, kept_checked, kept_no_loop}
+use Rattle.loops.proofs.Tables.{KeepsAll, fitting, kept_checked, kept_no_loop}
 use Rattle.ranker.specs.Arcs.{Tells}
 use Rattle.ranker.specs.Lifts.{Smallest}
 use Rattle.ranker.specs.Notes.{Noted}
@@ -22,6 +22,7 @@ use Rattle.ranker.specs.Ranked.{form_faults, Fills, Refutes, Ranked, Sound}
 use Rattle.ranker.specs.Ranked as ranked
 use Rattle.ranker.proofs.Noting.{noted_few}
 use Rattle.ranker.proofs.Telling.{noted_tells}
+use Rattle.ranker.proofs.Stretches.{odd_of}
 
 module _ {P : Type 0} (m : Meaning P) (rows : List (Row P)) (ranks : List ℕ) (losing : List Pair) (a : Accepted)
     (fine : Ok a ≡ judged m rows any_round (ranked.fitting m rows ranks losing)) where
@@ -34,7 +35,13 @@ module _ {P : Type 0} (m : Meaning P) (rows : List (Row P)) (ranks : List ℕ) (
   lengths : (eqb (length ranks) (4 * length rows) ≡ true) × (leb (length rows) (length losing) ≡ true)
   lengths = and_parts _ _ (fitting m rows any_round (ranked.fitting m rows ranks losing) formed).0
 
-  four : length ranks ≡ 4 * length rows
+  pub few : length rows ≤ 1024
+  few = few_rows m rows any_round well
+
+  pub enough : length rows ≤ length losing
+  enough = leb-true _ _ lengths.1
+
+  pub four : length ranks ≡ 4 * length rows
   four = eqb-true _ _ lengths.0
 
   -- the arcs noted from all its passages
@@ -42,8 +49,8 @@ module _ {P : Type 0} (m : Meaning P) (rows : List (Row P)) (ranks : List ℕ) (
     pub told : Tells (length rows) arcs (graph_of m rows)
     told = rw same (noted_tells m rows well noted stamps all)
 
-    pub fit : (length arcs ≤ 2 ^ 24) × ((length rows ≤ 1024) × ((length ranks ≡ 4 * length rows) × (length rows ≤ length losing)))
-    fit = (rw same (noted_few (length rows) _ noted stamps all), (few_rows m rows any_round well, (four, leb-true _ _ lengths.1)))
+    pub few_arcs : length arcs ≤ 2 ^ 24
+    few_arcs = rw same (noted_few (length rows) _ noted stamps all)
 
   module _ (ranks' : List ℕ) (losing' : List Pair) where
     -- a losing loop
@@ -52,21 +59,19 @@ module _ {P : Type 0} (m : Meaning P) (rows : List (Row P)) (ranks : List ℕ) (
       refuted =
           let F : List Fault → Type 0 = λ fs. Ranked m rows ranks losing fs r ranks' losing' in
           subst F (sym formed)
-          (inr (record { length = d.0; colour = d.1.0; answer = is ∙ ap Err d.1.1.0; written = d.1.1.1; least = d.1.1.2; rest = rest }))
+          (inr (record { length = d.0; colour = d.1; answer = is ∙ ap Err d.2; written = d.3; least = d.4; rest = rest }))
 
       pub refuted_exact : IsTrue (is_ok r) ↔ Sound m rows ranks losing
       refuted_exact =
           let no : is_ok r ≡ false = ap is_ok is in
-          (λ e. absurd (both_ways (is_ok r) no e), λ s. absurd (s.1 (d.1.0, d.1.1.1.loop, d.1.1.1.losing)))
+          (λ e. absurd (both_ways (is_ok r) no e), λ s. absurd (s.1 (d.1, d.3.loop, d.3.losing)))
 
     -- the smallest ranks
-    module _ (d : Drafted (graph_of m rows) (length rows) losing (Ok tt) ranks' losing') (long : length ranks' ≡ length ranks) where
+    module _ (d : Drafted (graph_of m rows) (length rows) losing (Ok tt) ranks' losing') (rest : losing' ≡ losing) (long : length ranks' ≡ length ranks) where
       smallest : (p : ℕ) → p % 2 ≡ 1 → p ≤ 7 → Smallest (graph_of m rows) p (rank_of ranks' (length rows) p)
-      smallest =
-          by_place (λ p. Smallest (graph_of m rows) p (rank_of ranks' (length rows) p))
-          (λ q b.
-          let F : ℕ → Type 0 = λ k. Smallest (graph_of m rows) (2 * q + 1) (λ s. get_or ranks' (k * length rows + s) 0) in
-          subst F (sym (place_of q)) (d.0 q b))
+      smallest p o h =
+          let c = odd_of p o h in
+          subst (λ (k : ℕ). Smallest (graph_of m rows) k (rank_of ranks' (length rows) k)) c.1 (d c.0)
 
       keeps : KeepsAll m rows ranks'
       keeps p o h = (smallest p o h).keeps
@@ -81,7 +86,7 @@ module _ {P : Type 0} (m : Meaning P) (rows : List (Row P)) (ranks : List ℕ) (
             checks = kept_checked m rows any_round well ranks' (long ∙ four) keeps ∙ ap Ok (sym e);
             smallest = smallest;
             long = long;
-            rest = d.1;
+            rest = rest;
           }))
 
       pub filled_exact : IsTrue (is_ok {E = Fault} (Ok a)) ↔ Sound m rows ranks losing

@@ -1,13 +1,14 @@
 -- The stretches of a rank list, drafted one after the other.
-use Rattle.std.proofs.Common.{◌≡◌, ℕ, zero, suc, ◌+◌, ◌-◌, ◌*◌, ◌/◌, ◌<◌, ◌≤◌, List, [], ◌∷◌, ◌++◌, length, get_or, take, drop, sym, ap, ◌∙◌, subst, mul-le-mul_right, arith, below_more}
+use Rattle.std.proofs.Common.{◌≡◌, ℕ, zero, suc, ◌+◌, ◌-◌, ◌*◌, ◌/◌, ◌%◌, ◌<◌, ◌≤◌, List, [], ◌∷◌, ◌++◌, length, get_or, take, drop, sym, ap, ◌∙◌, subst, mul-le-mul_right, arith, below_more}
 use borrow.Rule.Slice.PartMut.{put_mid, post_of}
 use Rattle.std.proofs.lemmas.List.{length-take, length-drop, get_or-take, get_or_append_left, get_or-append_right}
 use Rattle.table.specs.declared.odd.OddColour.{OddColour}
 use Rattle.table.specs.declared.odd.OddColour.TheVariants.{One, Three, Five, Seven}
 use Rattle.table.specs.Odd.{odd}
+use Rattle.table.specs.Ranks.{rank_of}
 use Rattle.loops.specs.Graph.{Graph, Closed, Losing, NoLoop}
 use Rattle.loops.proofs.Ranks.{none_losing}
-use Rattle.loops.proofs.Tables.{keeps_same}
+use Rattle.loops.proofs.Tables.{by_place, keeps_same}
 use Rattle.ranker.specs.Lifts.{rank_in, Smallest}
 
 -- the odd colours in turn
@@ -17,6 +18,17 @@ odd_at (suc zero) d b = omega arith
 odd_at (suc (suc zero)) d b = omega arith
 odd_at (suc (suc (suc zero))) d b = omega arith
 odd_at (suc (suc (suc (suc q)))) d b = absurd (omega arith)
+
+-- and all of them
+pub odd_of : (p : ℕ) → p % 2 ≡ 1 → p ≤ 7 → (c : OddColour) × (odd c ≡ p)
+odd_of = by_place (λ p. (c : OddColour) × (odd c ≡ p)) (λ q b. (get_or (One ∷ Three ∷ Five ∷ Seven ∷ []) q One, odd_at q One b))
+
+-- the ranks of the four stretches are those of the colours
+pub all_drafted : (g : Graph) (n : ℕ) (draft : List ℕ) → ((j : ℕ) → j < 4 → Smallest g (2 * j + 1) (λ s. get_or draft (j * n + s) 0)) → (c : OddColour) → Smallest g (odd c) (rank_of draft n (odd c))
+all_drafted g n draft x One = x 0 (omega arith)
+all_drafted g n draft x Three = x 1 (omega arith)
+all_drafted g n draft x Five = x 2 (omega arith)
+all_drafted g n draft x Seven = x 3 (omega arith)
 
 -- a stretch ends within the list
 pub stretch_end : (q n : ℕ) → q < 4 → (q + 1) * n ≤ 4 * n

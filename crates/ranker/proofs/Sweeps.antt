@@ -32,15 +32,15 @@ module _ (arcs : List Passage) (p : ℕ) (was : List ℕ) where
 
 -- the task stays the same
 pub same_trans : {a b c : Lifting} → SameTask a b → SameTask b c → SameTask a c
-same_trans x y = record { arcs = y.arcs ∙ x.arcs; colour = y.colour ∙ x.colour; list = y.list ∙ x.list; rows = y.rows ∙ x.rows }
+same_trans x y = record { arcs = y.arcs ∙ x.arcs; colour = y.colour ∙ x.colour; list = y.list ∙ x.list }
 
-pub same_met : {was is : Lifting} → SameTask was is → (ranks : List ℕ) (k : ℕ) → Met (odd is.colour) ranks (arc_at is.arcs.now k) → Met (odd was.colour) ranks (arc_at was.arcs.now k)
+pub same_met : {was is : Lifting} → SameTask was is → (ranks : List ℕ) (k : ℕ) → Met (odd is.colour) ranks (arc_at is.arcs.list.now k) → Met (odd was.colour) ranks (arc_at was.arcs.list.now k)
 same_met same ranks k met = rw (← same.arcs, ← same.colour) met
 
 -- after a sweep without a change the ranks are the smallest
-pub settled : (was is : Lifting) (r : Option ℕ) → SameTask was is → Below was.ranks.now → r ≡ None → Moved (AllMet was.arcs.now (odd was.colour)) was.ranks.now is.ranks.now r →
-    AllSmallest is.arcs.now (odd is.colour) is.ranks.now
+pub settled : (was is : Lifting) (r : Option ℕ) → SameTask was is → Below was.ranks.now → r ≡ None → Moved (AllMet was.arcs.list.now (odd was.colour)) was.ranks.now is.ranks.now r →
+    AllSmallest is.arcs.list.now (odd is.colour) is.ranks.now
 settled was is r same below e moved g tells =
-    let M : Option ℕ → Type 0 = Moved (AllMet was.arcs.now (odd was.colour)) was.ranks.now is.ranks.now in
+    let M : Option ℕ → Type 0 = Moved (AllMet was.arcs.list.now (odd was.colour)) was.ranks.now is.ranks.now in
     let m : M None = subst M e moved in
-    met_smallest g (odd is.colour) is.arcs.now is.ranks.now is.by tells is.lifted (rw m.0 below) (rw (same.arcs, same.colour) m.1)
+    met_smallest g (odd is.colour) is.arcs.list.now is.ranks.now is.by tells is.lifted (rw m.0 below) (rw (same.arcs, same.colour) m.1)

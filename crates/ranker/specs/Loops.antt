@@ -1,7 +1,10 @@
 -- A losing loop at the front of a list.
-use Rattle.std.specs.Prelude.{◌≡◌, ℕ, ◌+◌, ◌*◌, ◌<◌, List, ◌++◌, length, drop, Ok, Err, Result, slice_index}
+use Rattle.std.specs.Prelude.{◌≡◌, ℕ, ◌<◌, List, ◌++◌, length, drop, Ok, Err, Result}
 use Rattle.table.specs.declared.fault.Fault.{Fault}
 use Rattle.table.specs.declared.fault.Fault.TheVariants.{LosingLoop}
+use Rattle.table.specs.declared.odd.OddColour.{OddColour}
+use Rattle.table.specs.Odd.{odd}
+use Rattle.table.specs.Ranks.{rank_of}
 use Rattle.loops.specs.declared.pair.Pair.{Pair}
 use Rattle.loops.specs.Graph.{Graph, Losing, NoLoop}
 use Rattle.ranker.specs.Lifts.{rank_in, Smallest}
@@ -15,11 +18,11 @@ pub record Written (g : Graph) (p : ℕ) (was : List Pair) (k : ℕ) (is : List 
 
 -- what the arcs come to for p: its smallest ranks, or a losing loop of it
 abbrev pub DraftedFor : Graph → ℕ → List Pair → Result Unit Fault → List ℕ → List Pair → Type 0
-DraftedFor g p was (Ok _) ranks is = Smallest g p (rank_in ranks) × (is ≡ was)
+DraftedFor g p was (Ok _) ranks is = Smallest g p (rank_in ranks)
 DraftedFor g p was (Err f) ranks is = (k : ℕ) × (f ≡ LosingLoop k p) × Written g p was k is
 
--- what they come to for all odd colours: the stretch of each odd colour in the draft has its smallest ranks; or a losing loop is written
--- whose largest colour is the smallest that a losing loop has
+-- what they come to for n rows: the smallest ranks for each odd colour, or a losing loop whose largest colour is the
+-- smallest that a losing loop has
 abbrev pub Drafted : Graph → ℕ → List Pair → Result Unit Fault → List ℕ → List Pair → Type 0
-Drafted g n was (Ok _) draft is = ((q : ℕ) → q < 4 → Smallest g (2 * q + 1) (λ s. slice_index draft (q * n + s))) × (is ≡ was)
-Drafted g n was (Err f) draft is = (k : ℕ) × ((p : ℕ) × ((f ≡ LosingLoop k p) × Written g p was k is × ((q : ℕ) → q < p → NoLoop g q)))
+Drafted g n was (Ok _) draft is = (c : OddColour) → Smallest g (odd c) (rank_of draft n (odd c))
+Drafted g n was (Err f) draft is = (k : ℕ) × (p : ℕ) × (f ≡ LosingLoop k p) × Written g p was k is × ((q : ℕ) → q < p → NoLoop g q)

@@ -1,12 +1,13 @@
 //! The ranks of one odd colour, lifted from 0 until every arc is met.
-ghost use Rattle.std.specs.Prelude.{◌≡◌, ℕ, ◌^◌, ◌<◌, ◌≤◌, length, MatchOption};
+ghost use Rattle.std.specs.Prelude.{◌≡◌, ℕ, ◌^◌, ◌<◌, ◌≤◌, length, MatchOption, slice_index};
 ghost use Rattle.std.specs.Iterator.{IsFinite};
 ghost use Rattle.table.specs.Odd.{odd};
 ghost use Rattle.loops.specs.Graph.{Graph};
-ghost use Rattle.ranker.specs.Arcs.{arc_at, Tells, Told};
+ghost use Rattle.ranker.specs.Arcs.{arc_at, Tells};
 ghost use Rattle.ranker.specs.Lifts.{rank_in, due_by, Met, Below, slack, Owned, LiftedBy, OnRings, Covers, Moved, AllMet, AllSmallest};
 ghost use Rattle.ranker.specs.Loops.{Written};
 
+use crate::arcs::Arcs;
 use loops::pair::Pair;
 use plan::passage::Passage;
 use table::odd::OddColour;
@@ -15,30 +16,25 @@ use table::row::MAX_ROWS;
 /// The ranks of all rows for one odd colour, on their way up from 0.
 #[derive(Drop)]
 pub(crate) struct Lifting<'a> {
-    arcs: &'a [Passage],
+    arcs: Arcs<'a>,
     colour: OddColour,
     ranks: &'a mut [u16],
     /// For each row above 0, the place of the arc that lifted it last.
     by: [u32; MAX_ROWS],
-    ghost few: { length arcs.now ≤ 2 ^ 24 },
-    ghost rows: { length ranks.now ≤ 1024 },
-    ghost told: { ∥ Told (length ranks.now) arcs.now ∥₁ },
-    ghost own: { Owned arcs.now ranks.now by },
-    ghost lifted: { LiftedBy arcs.now (odd colour) ranks.now by },
+    ghost rows: { length ranks.now ≡ arcs.rows },
+    ghost own: { Owned arcs.list.now ranks.now by },
+    ghost lifted: { LiftedBy arcs.list.now (odd colour) ranks.now by },
 }
 
 impl<'a> Lifting<'a> {
     ghost use Rattle.ranker.specs.Task.{SameTask};
 
     /// Begins with all ranks 0.
-    pub(crate) fn new(arcs: &'a [Passage], colour: OddColour, ranks: &'a mut [u16]) -> Lifting<'a>
-        requires few { length arcs.now ≤ 2 ^ 24 }
-        requires rows { length ranks.old ≤ 1024 }
-        requires told { Told (length ranks.old) arcs.now }
+    pub(crate) fn new(arcs: Arcs<'a>, colour: OddColour, ranks: &'a mut [u16]) -> Lifting<'a>
+        requires { length ranks.old ≡ arcs.rows }
         ensures arcs { result.arcs ≡ arcs.entry }
         ensures colour { result.colour ≡ colour }
         ensures list { result.ranks.ghost_name ≡ ranks.entry.ghost_name }
-        ensures rows { length result.ranks.now ≡ length ranks.old }
         ensures below { Below result.ranks.now }
     {
         ranks.fill(0);
@@ -65,12 +61,12 @@ impl<'a> Lifting<'a> {
 
     /// Lifts the row of arc k to what the arc asks for, and tells the row if that was needed.
     fn lift(&mut self, k: usize) -> Option<u16>
-        requires there { k < length self.old.arcs.now }
+        requires there { k < length self.old.arcs.list.now }
         requires below { Below self.old.ranks.now }
         ensures same { SameTask self.old self.new }
-        ensures moved { Moved (λ ranks. Met (odd self.old.colour) ranks (arc_at self.old.arcs.now k)) self.old.ranks.now self.new.ranks.now result }
+        ensures moved { Moved (λ ranks. Met (odd self.old.colour) ranks (arc_at self.old.arcs.list.now k)) self.old.ranks.now self.new.ranks.now result }
     {
-        let arc = self.arcs[k];
+        let arc = self.arcs.list[k];
         if arc.colour > self.colour.number() {
             return None;
         }
@@ -89,10 +85,10 @@ impl<'a> Lifting<'a> {
     fn sweep<I: Iterator<Item = usize> + Drop>(&mut self, places: I) -> Option<u16>
         requires can { I.can_next places }
         requires ends { IsFinite (I.remaining places) }
-        requires covers { Covers I.next_gives places (length self.old.arcs.now) }
+        requires covers { Covers I.next_gives places (length self.old.arcs.list.now) }
         requires below { Below self.old.ranks.now }
         ensures same { SameTask self.old self.new }
-        ensures moved { Moved (AllMet self.old.arcs.now (odd self.old.colour)) self.old.ranks.now self.new.ranks.now result }
+        ensures moved { Moved (AllMet self.old.arcs.list.now (odd self.old.colour)) self.old.ranks.now self.new.ranks.now result }
     {
         let mut last = None;
         for k in places {
@@ -106,18 +102,26 @@ impl<'a> Lifting<'a> {
         last
     }
 
+    /// The arc that lifted a row last, if its rank is above 0.
+    fn lifter(&self, row: u16) -> Passage
+        requires { (row < length self.now.ranks.now) × (0 < rank_in self.now.ranks.now row) }
+        ensures { result ≡ arc_at self.now.arcs.list.now (slice_index self.now.by row) }
+    {
+        self.arcs.list[self.by[row as usize] as usize]
+    }
+
     /// Follows the arcs that lifted a row, and the next, for as many steps as there are rows: the row reached lies on a
     /// ring of such arcs. There is none where the way ends before, at a row of rank 0.
     fn ring_from(&self, row: u16) -> Option<u16>
         requires { row < length self.now.ranks.now }
-        ensures { MatchOption result (rank_in self.now.ranks.now row < length self.now.ranks.now) (OnRings self.now.arcs.now self.now.ranks.now self.now.by) }
+        ensures { MatchOption result (rank_in self.now.ranks.now row < length self.now.ranks.now) (OnRings self.now.arcs.list.now self.now.ranks.now self.now.by) }
     {
         let mut at = row;
         for _step in 0..self.ranks.len() {
             if self.ranks[at as usize] == 0 {
                 return None;
             }
-            at = self.arcs[self.by[at as usize] as usize].to;
+            at = self.lifter(at).to;
         }
         Some(at)
     }
@@ -127,9 +131,9 @@ impl<'a> Lifting<'a> {
     pub(crate) fn settle(&mut self) -> Option<u16>
         requires { Below self.old.ranks.now }
         ensures same { SameTask self.old self.new }
-        ensures settled { MatchOption result (AllSmallest self.new.arcs.now (odd self.new.colour) self.new.ranks.now) (OnRings self.new.arcs.now self.new.ranks.now self.new.by) }
+        ensures settled { MatchOption result (AllSmallest self.new.arcs.list.now (odd self.new.colour) self.new.ranks.now) (OnRings self.new.arcs.list.now self.new.ranks.now self.new.by) }
     {
-        let count = self.arcs.len();
+        let count = self.arcs.list.len();
         let mut forward = false;
         while let Some(row) = if forward {
             self.sweep(0..count)
@@ -146,13 +150,13 @@ impl<'a> Lifting<'a> {
 
     /// Writes the ring of arcs that a row lies on to the front of the list, from that row on, and tells its length.
     pub(crate) fn write_ring(&self, row: u16, losing: &mut [Pair]) -> u16
-        requires ring { OnRings self.now.arcs.now self.now.ranks.now self.now.by row }
+        requires ring { OnRings self.now.arcs.list.now self.now.ranks.now self.now.by row }
         requires room { length self.now.ranks.now ≤ length losing.old }
-        ensures { (g : Graph) → Tells (length self.now.ranks.now) self.now.arcs.now g → Written g (odd self.now.colour) losing.old result losing.new }
+        ensures { (g : Graph) → Tells (length self.now.ranks.now) self.now.arcs.list.now g → Written g (odd self.now.colour) losing.old result losing.new }
     {
         let mut at = row;
         for (k, pair) in losing.iter_mut().enumerate() {
-            let arc = self.arcs[self.by[at as usize] as usize];
+            let arc = self.lifter(at);
             *pair = Pair {
                 row: at,
                 outcome: arc.outcome,

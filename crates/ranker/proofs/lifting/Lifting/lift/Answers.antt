@@ -1,4 +1,4 @@
-use Rattle.std.proofs.Common.{arith}
+use Rattle.std.proofs.Common.{◌∙◌, arith}
 use Rattle.std.proofs.lemmas.List.{length-set}
 use Rattle.table.specs.Odd.{odd}
 use Rattle.ranker.specs.Arcs.{arc_at}
@@ -8,24 +8,26 @@ use Rattle.ranker.proofs.lifting.Lifting.lift.Goals as goal
 pub invariant_of-self : goal.invariant_of-self
 invariant_of-self c =
     let self = c.args.self.now in
-    let raise : Raise self.arcs.now (odd self.colour) self.ranks.now self.by c.args.k c.due-due.result =
-    record { told = self.told; there = c.requires.there; room = omega (arith, self.rows); small = omega arith; is = c.due-due.ensures; up = omega arith } in
-    record { few = self.few; rows = self.rows; told = self.told; own = owned_repicked raise self.own; lifted = lifted_again raise self.lifted }
+    let raise : Raise self.arcs.list.now (odd self.colour) self.ranks.now self.by c.args.k c.due-due.result =
+    record { told = rw self.rows self.arcs.told; there = c.requires.there; room = omega (arith, self.rows, self.arcs.small); small = omega arith; is = c.due-due.ensures; up = omega arith } in
+    record { rows = self.rows; own = owned_repicked raise self.own; lifted = lifted_again raise self.lifted }
 
 pub bounds-self-row-3 : goal.bounds-self-row-3
-bounds-self-row-3 c = arc_from _ c.args.self.now.arcs.now c.args.k c.args.self.now.told c.requires.there
+bounds-self-row-3 c =
+    let self = c.args.self.now in
+    omega (arith, self.rows, arc_from self.arcs.rows self.arcs.list.now c.args.k self.arcs.told c.requires.there)
 
 pub invariant_of-self-2 : goal.invariant_of-self-2
 invariant_of-self-2 c =
     let self = c.args.self.now in
-    let raise : Raise self.arcs.now (odd self.colour) self.ranks.now self.by c.args.k c.due-due.result =
-    record { told = self.told; there = c.requires.there; room = omega (arith, self.rows); small = omega arith; is = c.due-due.ensures; up = omega arith } in
-    let long = length-set self.ranks.now (arc_at self.arcs.now c.args.k).from c.due-due.result in
-    record { few = self.few; rows = omega (arith, self.rows, long); told = rw long self.told; own = owned_more raise self.own; lifted = lifted_higher raise self.lifted }
+    let raise : Raise self.arcs.list.now (odd self.colour) self.ranks.now self.by c.args.k c.due-due.result =
+    record { told = rw self.rows self.arcs.told; there = c.requires.there; room = omega (arith, self.rows, self.arcs.small); small = omega arith; is = c.due-due.ensures; up = omega arith } in
+    let long = length-set self.ranks.now (arc_at self.arcs.list.now c.args.k).from c.due-due.result in
+    record { rows = long ∙ self.rows; own = owned_more raise self.own; lifted = lifted_higher raise self.lifted }
 
 pub returns-clause-moved : goal.returns-clause-moved
 returns-clause-moved c =
     let self = c.args.self.now in
-    let raise : Raise self.arcs.now (odd self.colour) self.ranks.now self.by c.args.k c.due-due.result =
-    record { told = self.told; there = c.requires.there; room = omega (arith, self.rows); small = omega arith; is = c.due-due.ensures; up = omega arith } in
+    let raise : Raise self.arcs.list.now (odd self.colour) self.ranks.now self.by c.args.k c.due-due.result =
+    record { told = rw self.rows self.arcs.told; there = c.requires.there; room = omega (arith, self.rows, self.arcs.small); small = omega arith; is = c.due-due.ensures; up = omega arith } in
     moved raise c.requires.below

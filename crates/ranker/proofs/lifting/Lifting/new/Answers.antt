@@ -9,9 +9,7 @@ invariant_of-result c =
     let zeros : (s : ℕ) → s < length c.fill.new.self → rank_in c.fill.new.self s ≡ 0 = λ s b.
     ap (λ (x : List ℕ). get_or x s 0) (c.fill.ensures.after (λ y e. e)) ∙ get_or-replicate (length c.args.ranks.now) s 0 0 (omega (arith, c.fill.ensures.len)) in
     record {
-      few = c.requires.few;
-      rows = omega (arith, c.fill.ensures.len, c.requires.rows);
-      told = rw c.fill.ensures.len (∣ c.requires.told ∣₁);
+      rows = c.fill.ensures.len ∙ c.requires;
       own = λ s b h. absurd (omega (arith, zeros s b));
       lifted = λ g tells. (∣ lifted_none g _ _ _ (λ s b. zeros s (omega (arith, tells.size))) ∣₁);
     }

@@ -1,6 +1,7 @@
 use Rattle.std.proofs.Common.{◌≡◌, ℕ, ◌<◌, length, get_or, sym, ap, ◌∙◌, subst, arith, below_more}
 use Rattle.std.proofs.Math.Logic.{∥∥₁_elim}
 use Rattle.std.specs.Coded.{le_prop}
+use Rattle.plan.specs.declared.passage.Passage.{Passage}
 use Rattle.table.specs.Odd.{odd}
 use Rattle.loops.specs.Lifting.{Lifted, after, OnRing}
 use Rattle.loops.proofs.Rings.{after_more, most_steps, on_ring}
@@ -13,9 +14,9 @@ pub returns-then-self-at-eq0 : goal.returns-then-self-at-eq0
 returns-then-self-at-eq0 c =
     let self = c.args.self.now in
     let ranks = self.ranks.now in
-    let pick = pick_in self.arcs.now self.by in
-    ∥∥₁_elim self.told le_prop
-    (λ (t : Told (length ranks) self.arcs.now).
+    let pick = pick_in self.arcs.list.now self.by in
+    ∥∥₁_elim (rw self.rows self.arcs.told) le_prop
+    (λ (t : Told (length ranks) self.arcs.list.now).
     let g = t.0 in
     let inv = c.loop-step.invariant.1 g t.1 in
     ∥∥₁_elim (self.lifted g t.1) le_prop
@@ -25,18 +26,19 @@ returns-then-self-at-eq0 c =
 pub loop-step-preserved : goal.loop-step-preserved
 loop-step-preserved c =
     let self = c.args.self.now in
-    let arcs = self.arcs.now in
+    let arcs = self.arcs.list.now in
     let ranks = self.ranks.now in
     let pick = pick_in arcs self.by in
     let at = c.loop-step.at in
-    let here : 0 < rank_in ranks at = omega arith in (
-      arc_to (length ranks) arcs (get_or self.by at 0) self.told (self.own at c.loop-step.invariant.0 here).0,
+    let here : 0 < rank_in ranks at = omega arith in
+    let to-is = ap (λ (a : Passage). a.to) c.lifter-at.ensures in (
+      omega (arith, self.rows, to-is, arc_to self.arcs.rows arcs (get_or self.by at 0) self.arcs.told (self.own at c.loop-step.invariant.0 here).0),
       λ g tells.
           let inv = c.loop-step.invariant.1 g tells in
           let R : ℕ → Type 0 = λ x. 0 < rank_in ranks x in (
             after_more g pick c.loop-step._step c.args.row
                 ∙ ap (λ (x : ℕ). g.to x (pick x)) inv.0
-                ∙ leads g arcs ranks self.by self.own tells at c.loop-step.invariant.0 here,
+                ∙ (leads g arcs ranks self.by self.own tells at c.loop-step.invariant.0 here ∙ sym to-is),
             below_more _ _ inv.1 (subst R (sym inv.0) here),
           ),
     )
@@ -45,11 +47,11 @@ pub returns : goal.returns
 returns c = λ g tells.
     let self = c.args.self.now in
     let ranks = self.ranks.now in
-    let pick = pick_in self.arcs.now self.by in
+    let pick = pick_in self.arcs.list.now self.by in
     let inv = c.loop-step.invariant.1 g tells in
     let n : g.size ≡ length ranks = tells.size in
     let k : c.loop-step._step ≡ g.size = omega arith in
     let K : ℕ → Type 0 = λ x. after g pick x c.args.row ≡ c.loop-step.at in
-    let ring = on_ring g (rank_in ranks) pick tells.closed (picks g self.arcs.now ranks self.by self.own tells) c.args.row (omega arith) (λ j b. inv.1 j (omega arith)) in
+    let ring = on_ring g (rank_in ranks) pick tells.closed (picks g self.arcs.list.now ranks self.by self.own tells) c.args.row (omega arith) (λ j b. inv.1 j (omega arith)) in
     let R : ℕ → ℕ → Type 0 = λ x y. OnRing g (rank_in ranks) pick x y in
     subst (λ (x : ℕ). R x c.loop-step.at) n (subst (R g.size) (subst K k inv.0) ring)

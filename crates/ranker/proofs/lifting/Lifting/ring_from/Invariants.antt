@@ -7,7 +7,7 @@ use Rattle.ranker.proofs.lifting.Lifting.ring_from.Given as goal
 
 abbrev pub invariant-loop-step : goal.invariant-loop-step
 invariant-loop-step l =
-    let arcs = l.self.arcs.now in
+    let arcs = l.self.arcs.list.now in
     let ranks = l.self.ranks.now in
     (l.at < length ranks)
     × ((g : Graph) → Tells (length ranks) arcs g →

@@ -11,7 +11,7 @@ loop-k-preserved g c =
     let met = c.in_default.ensures.moved in (
       rw met.0 c.loop-k.invariant.0,
       same_trans c.loop-k.invariant.1 c.in_default.ensures.same,
-      moved_met was.arcs.now (odd was.colour) was.ranks.now c.loop-k.yielded c.loop-k.self.ranks.now ranks c.in-Some.k c.loop-k.last met.0
+      moved_met was.arcs.list.now (odd was.colour) was.ranks.now c.loop-k.yielded c.loop-k.self.ranks.now ranks c.in-Some.k c.loop-k.last met.0
           (same_met c.loop-k.invariant.1 ranks c.in-Some.k met.1) c.loop-k.invariant.2,
     )
 
@@ -20,5 +20,5 @@ returns-clause-moved g c =
     let was = c.args.self.now in
     let Y : g.row.I.Denot → Type 0 = λ s. Yields g.I.Iterator.next_gives s c.loop-k.yielded c.loop-k.k-iterator in
     let yielded : Y c.args.places = subst Y c.into_iter-k-iterator.ensures.into_iter_gives c.loop-k.yielded_by in
-    moved_all was.arcs.now (odd was.colour) was.ranks.now c.loop-k.yielded c.loop-k.self.ranks.now c.loop-k.last
+    moved_all was.arcs.list.now (odd was.colour) was.ranks.now c.loop-k.yielded c.loop-k.self.ranks.now c.loop-k.last
     (c.requires.covers.whole c.loop-k.yielded c.loop-k.k-iterator c.next.new.self yielded c.in-None.ensures.steps) c.loop-k.invariant.2

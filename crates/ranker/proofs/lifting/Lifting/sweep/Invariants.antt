@@ -7,4 +7,4 @@ use Rattle.ranker.proofs.lifting.Lifting.sweep.Given as goal
 abbrev pub invariant-loop-k : goal.invariant-loop-k
 invariant-loop-k g l =
     let was = l.initial.self in
-    Below l.self.ranks.now × SameTask was l.self × Moved (MetAt was.arcs.now (odd was.colour) l.yielded) was.ranks.now l.self.ranks.now l.last
+    Below l.self.ranks.now × SameTask was l.self × Moved (MetAt was.arcs.list.now (odd was.colour) l.yielded) was.ranks.now l.self.ranks.now l.last
