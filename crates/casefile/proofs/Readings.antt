@@ -18,11 +18,11 @@ use Rattle.casefile.specs.Draft.{said}
 pub nothing_yet : (r : Room) → said r.draft ≡ nothing
 nothing_yet r =
     let d = r.draft in
-    let cs = nil_from_length (vec_items d.ceilings) (sym d.ceilings.ok.0 ∙ r.no_clocks) in
-    let ls = nil_from_length (vec_items d.locations) (sym d.locations.ok.0 ∙ r.no_locations) in
-    let es = nil_from_length (vec_items d.edges) (sym d.edges.ok.0 ∙ r.no_edges) in
-    let rs = nil_from_length (vec_items d.rows) (sym d.rows.ok.0 ∙ r.no_rows) in
-    let ks = nil_from_length (vec_items d.ranks) (sym d.ranks.ok.0 ∙ d.level ∙ r.no_rows) in
+    let cs = nil_from_length (vec_items d.ceilings.items) (sym d.ceilings.items.ok.0 ∙ r.no_clocks) in
+    let ls = nil_from_length (vec_items d.locations.items) (sym d.locations.items.ok.0 ∙ r.no_locations) in
+    let es = nil_from_length (vec_items d.edges.items) (sym d.edges.items.ok.0 ∙ r.no_edges) in
+    let rs = nil_from_length (vec_items d.rows.items) (sym d.rows.items.ok.0 ∙ r.no_rows) in
+    let ks = nil_from_length (vec_items d.ranks.items) (sym d.ranks.items.ok.0 ∙ d.level ∙ r.no_rows) in
     λ j. record { ceilings = cs j; locations = ls j; edges = es j; rows = rs j; ranks = ks j }
 
 -- what the lines have said is a case where the game is sound

@@ -7,11 +7,11 @@ use Rattle.casefile.specs.declared.draft.Draft.{Draft}
 abbrev pub said : Draft → Said
 said d =
     record {
-      ceilings = vec_items d.ceilings;
-      locations = vec_items d.locations;
-      edges = vec_items d.edges;
-      rows = vec_items d.rows;
-      ranks = vec_items d.ranks;
+      ceilings = vec_items d.ceilings.items;
+      locations = vec_items d.locations.items;
+      edges = vec_items d.edges.items;
+      rows = vec_items d.rows.items;
+      ranks = vec_items d.ranks.items;
     }
 
 -- what a call answers that adds to a draft

@@ -1,28 +1,23 @@
 //! A case in the making.
-ghost use Rattle.std.specs.Prelude.{◌≡◌, ◌≤◌, vec_len, vec_capacity};
+ghost use Rattle.std.specs.Prelude.{◌≡◌, vec_len};
 
+use crate::capped::Capped;
+use crate::limits::{MAX_CLOCKS, MAX_RANKS};
 use casetext::ranks::Ranks;
 use game::parts::{Edge, Location, TimedPosition};
-use table::row::Row;
+use soundness::tables::{MOST_EDGES, MOST_LOCATIONS};
+use table::row::{MAX_ROWS, Row};
 
 /// What the lines so far have said, with room for all that lines may say: no line asks for memory.
 #[derive(Drop)]
 pub(crate) struct Draft {
-    pub(crate) ceilings: Vec<u8>,
-    pub(crate) locations: Vec<Location>,
-    pub(crate) edges: Vec<Edge>,
-    pub(crate) rows: Vec<Row<TimedPosition>>,
-    pub(crate) ranks: Vec<Ranks>,
+    pub(crate) ceilings: Capped<u8, MAX_CLOCKS>,
+    pub(crate) locations: Capped<Location, MOST_LOCATIONS>,
+    pub(crate) edges: Capped<Edge, MOST_EDGES>,
+    pub(crate) rows: Capped<Row<TimedPosition>, MAX_ROWS>,
+    pub(crate) ranks: Capped<Ranks, MAX_ROWS>,
     /// Where all ranks go at last, colour by colour; empty until then.
-    pub(crate) columns: Vec<u16>,
-    ghost clock_room: { 3 ≤ vec_capacity ceilings },
-    ghost location_room: { 32 ≤ vec_capacity locations },
-    ghost edge_room: { 64 ≤ vec_capacity edges },
-    ghost row_room: { 1024 ≤ vec_capacity rows },
-    ghost rank_room: { 1024 ≤ vec_capacity ranks },
-    ghost column_room: { 4096 ≤ vec_capacity columns },
-    ghost few_clocks: { vec_len ceilings ≤ 3 },
-    ghost few_rows: { vec_len rows ≤ 1024 },
-    ghost level: { vec_len ranks ≡ vec_len rows },
-    ghost unfilled: { vec_len columns ≡ 0 },
+    pub(crate) columns: Capped<u16, MAX_RANKS>,
+    ghost level: { vec_len ranks.items ≡ vec_len rows.items },
+    ghost unfilled: { vec_len columns.items ≡ 0 },
 }

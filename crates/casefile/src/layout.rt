@@ -24,14 +24,14 @@ impl Draft {
     fn is_out_of_place(&self, kind: Kind) -> bool
         ensures { result ≡ out_of_place (said self.now) kind }
     {
-        let rows = !self.rows.is_empty();
-        let edges = !self.edges.is_empty();
-        let locations = !self.locations.is_empty();
+        let rows = !self.rows.items.is_empty();
+        let edges = !self.edges.items.is_empty();
+        let locations = !self.locations.items.is_empty();
         match kind {
-            Kind::Clock => locations || edges || rows || self.ceilings.len() >= MAX_CLOCKS,
-            Kind::Loc => edges || rows || self.locations.len() >= MOST_LOCATIONS,
-            Kind::Edge => rows || self.edges.len() >= MOST_EDGES,
-            Kind::Row => self.rows.len() >= MAX_ROWS,
+            Kind::Clock => locations || edges || rows || self.ceilings.items.len() >= MAX_CLOCKS,
+            Kind::Loc => edges || rows || self.locations.items.len() >= MOST_LOCATIONS,
+            Kind::Edge => rows || self.edges.items.len() >= MOST_EDGES,
+            Kind::Row => self.rows.items.len() >= MAX_ROWS,
         }
     }
 
@@ -40,7 +40,7 @@ impl Draft {
         ensures count { result ≡ length (forms (said self.now) kind) }
         ensures limited { result ≤ 17 }
     {
-        let clocks = self.ceilings.len();
+        let clocks = self.ceilings.items.len();
         match kind {
             Kind::Clock => 2,
             Kind::Loc => 2 + clocks,
@@ -57,13 +57,13 @@ impl Draft {
         match i {
             0 => Form::Owner,
             1 | 2 => Form::End {
-                locations: self.locations.len(),
+                locations: self.locations.items.len(),
             },
             3 => Form::Letters {
-                clocks: self.ceilings.len(),
+                clocks: self.ceilings.items.len(),
             },
             _ => Form::Interval {
-                ceiling: self.ceilings[i - 4],
+                ceiling: self.ceilings.items[i - 4],
             },
         }
     }
@@ -73,7 +73,7 @@ impl Draft {
         requires { i < length (row_forms (said self.now).ceilings) }
         ensures { result ≡ slice_index_or (row_forms (said self.now).ceilings) i Owner }
     {
-        let steps = 4 + 2 * self.ceilings.len();
+        let steps = 4 + 2 * self.ceilings.items.len();
         match i {
             0 => up_to(MAX_LOCATION),
             1 => up_to(MAX_PRIORITY),
@@ -100,7 +100,7 @@ impl Draft {
             },
             (Kind::Loc, 1) => up_to(MAX_PRIORITY),
             (Kind::Loc, _) => Form::Interval {
-                ceiling: self.ceilings[i - 2],
+                ceiling: self.ceilings.items[i - 2],
             },
             (Kind::Edge, _) => self.edge_form(i - 1),
             (Kind::Row, _) => self.row_form(i - 1),

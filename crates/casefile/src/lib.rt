@@ -1,6 +1,7 @@
 //! Reads the text of a case.
 #![tactic(auto)]
 
+mod capped;
 pub mod case;
 mod columns;
 mod draft;

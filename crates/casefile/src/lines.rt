@@ -51,19 +51,17 @@ impl Draft {
         ensures { said self.new ≡ added (said self.old) kind (fields line.now.bytes.now) }
     {
         match kind {
-            Kind::Clock => self
-                .ceilings
-                .push_reserved(line.small_value(1, MAX_CEILING)),
-            Kind::Loc => self.locations.push_reserved(line.location()),
-            Kind::Edge => self.edges.push_reserved(line.edge()),
+            Kind::Clock => self.ceilings.push(line.small_value(1, MAX_CEILING)),
+            Kind::Loc => self.locations.push(line.location()),
+            Kind::Edge => self.edges.push(line.edge()),
             Kind::Row => {
-                let clocks = self.ceilings.len();
+                let clocks = self.ceilings.items.len();
                 let line = RowLine {
                     line: *line,
                     clocks,
                 };
-                self.rows.push_reserved(line.row());
-                self.ranks.push_reserved(line.ranks());
+                self.rows.push(line.row());
+                self.ranks.push(line.ranks());
             }
         }
     }

@@ -7,6 +7,7 @@ ghost use Rattle.casetext.specs.Sound.{Sound};
 ghost use Rattle.casefile.specs.Draft.{said};
 ghost use Rattle.casefile.specs.Case.{holds, told, answers};
 
+use crate::capped::Capped;
 use crate::case::{Case, ReadError};
 use crate::columns::fill_columns;
 use crate::draft::Draft;
@@ -32,12 +33,12 @@ fn finish(draft: Draft) -> Result<Case, TextFault>
     ensures { told result ≡ (if sound (game_of (said draft)) then Ok (contents (said draft)) else Err NoStart) }
 {
     let Draft {
-        ceilings,
-        locations,
-        edges,
-        rows,
-        ranks,
-        mut columns,
+        ceilings: Capped { items: ceilings },
+        locations: Capped { items: locations },
+        edges: Capped { items: edges },
+        rows: Capped { items: rows },
+        ranks: Capped { items: ranks },
+        columns: Capped { items: mut columns },
     } = draft;
     fill_columns(&mut columns, ranks.as_slice());
     let ceilings = all_ceilings(ceilings.as_slice());

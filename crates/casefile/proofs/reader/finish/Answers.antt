@@ -13,20 +13,20 @@ use Rattle.casefile.proofs.Readings.{said_sound}
 use Rattle.casefile.proofs.reader.finish.Goals as goal
 
 pub fill_columns-requires : goal.fill_columns-requires
-fill_columns-requires c = let d = c.args.draft in (nil_from_length (vec_items d.columns) (sym d.columns.ok.0 ∙ d.unfilled), omega arith)
+fill_columns-requires c = let d = c.args.draft in (nil_from_length (vec_items d.columns.items) (sym d.columns.items.ok.0 ∙ d.unfilled), omega arith)
 
 pub returns : goal.returns
 returns c =
     let d = c.args.draft in
-    let same = ap (λ k. game k (vec_items d.locations) (vec_items d.edges)) (c.all_ceilings-ceilings.ensures ∙ ap ceilings_of c.as_slice-2.ensures.value) in
+    let same = ap (λ k. game k (vec_items d.locations.items) (vec_items d.edges.items)) (c.all_ceilings-ceilings.ensures ∙ ap ceilings_of c.as_slice-2.ensures.value) in
     let some = c.in_ok-game.ensures.ok_part in
-    let P : Option TimedGame → Type 0 = λ o. IfSome o (λ t. code.game_of t ≡ game c.all_ceilings-ceilings.result (vec_items d.locations) (vec_items d.edges)) in
+    let P : Option TimedGame → Type 0 = λ o. IfSome o (λ t. code.game_of t ≡ game c.all_ceilings-ceilings.result (vec_items d.locations.items) (vec_items d.edges.items)) in
     said_sound (said d) _ _ (sym (ap is_some some) ∙ c.new.ensures.test ∙ ap sound same) (subst P some c.new.ensures.tables ∙ same) (c.fill_columns.ensures ∙ ap rank_list c.as_slice.ensures.value)
 
 pub returns-in_err-game : goal.returns-in_err-game
 returns-in_err-game c =
     let d = c.args.draft in
-    let same = ap (λ k. game k (vec_items d.locations) (vec_items d.edges)) (c.all_ceilings-ceilings.ensures ∙ ap ceilings_of c.as_slice-2.ensures.value) in
+    let same = ap (λ k. game k (vec_items d.locations.items) (vec_items d.edges.items)) (c.all_ceilings-ceilings.ensures ∙ ap ceilings_of c.as_slice-2.ensures.value) in
     let p = err_from_is_err_and c.from_residual.result c.from_residual.ensures.1 in
     let none = c.in_err-game.ensures.ok_part in
     let unsound : sound (game_of (said d)) ≡ false = sym (c.new.ensures.test ∙ ap sound same) ∙ ap is_some none in

@@ -7,4 +7,4 @@ use Rattle.casefile.proofs.draft.Draft.fields_needed.Goals as goal
 pub returns-in-Row-clause-count : goal.returns-in-Row-clause-count
 returns-in-Row-clause-count c =
     let s = said c.args.self.now in
-    omega (arith, ap (λ k. length (forms s k)) c.in-Row.is, length_row s, c.args.self.now.ceilings.ok.0)
+    omega (arith, ap (λ k. length (forms s k)) c.in-Row.is, length_row s, c.args.self.now.ceilings.items.ok.0)

@@ -7,13 +7,13 @@ use Rattle.casefile.proofs.draft.Draft.row_form.Goals.{then-i-steps+else-i-eq0, 
 
 pub returns-in_default : goal.returns-in_default
 returns-in_default c =
-    let cs = vec_items c.args.self.now.ceilings in
+    let cs = vec_items c.args.self.now.ceilings.items in
     let high : c.args.i < 4 + 2 * length cs = omega arith in
     c.up_to-in_default.ensures ∙ sym (row_standing cs c.args.i Owner (omega arith) high ∙ cond-true _ _ _ (eq-eqb _ 0 c.if-i-eq0.true))
 
 pub returns-in_default-2 : goal.returns-in_default-2
 returns-in_default-2 c =
-    let cs = vec_items c.args.self.now.ceilings in
+    let cs = vec_items c.args.self.now.ceilings.items in
     let high : c.args.i < 4 + 2 * length cs = omega arith in
     elim c.if-i-steps.branch [
       | then-i-steps+else-i-eq0 w ↦ c.up_to-in_default-2.ensures ∙ sym (row_standing cs c.args.i Owner (omega arith) high ∙ cond-false _ _ _ (ne_eqb _ 0 w.if-i-eq0.false))
@@ -21,10 +21,10 @@ returns-in_default-2 c =
     ]
 
 pub returns-in_default-3 : goal.returns-in_default-3
-returns-in_default-3 c = c.up_to-in_default-3.ensures ∙ sym (row_end_at (vec_items c.args.self.now.ceilings) c.args.i Owner 0 (omega arith))
+returns-in_default-3 c = c.up_to-in_default-3.ensures ∙ sym (row_end_at (vec_items c.args.self.now.ceilings.items) c.args.i Owner 0 (omega arith))
 
 pub returns-in_default-4 : goal.returns-in_default-4
-returns-in_default-4 c = sym (row_end_at (vec_items c.args.self.now.ceilings) c.args.i Owner 1 (omega arith))
+returns-in_default-4 c = sym (row_end_at (vec_items c.args.self.now.ceilings.items) c.args.i Owner 1 (omega arith))
 
 pub returns-in_default-5 : goal.returns-in_default-5
-returns-in_default-5 c = c.up_to-in_default-5.ensures ∙ sym (row_rank (vec_items c.args.self.now.ceilings) c.args.i Owner (omega arith) c.requires)
+returns-in_default-5 c = c.up_to-in_default-5.ensures ∙ sym (row_rank (vec_items c.args.self.now.ceilings.items) c.args.i Owner (omega arith) c.requires)
