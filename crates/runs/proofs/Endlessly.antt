@@ -1,5 +1,5 @@
 -- Runs without end by an accepted table.
-use Rattle.std.proofs.Common.{◌≡◌, ℕ, zero, suc, ◌+◌, ◌%◌, ◌<◌, ◌≤◌, max, Bool, true, false, cond, ◌&&◌, eqb, List, length, Some, sym, refl, ap, ◌∙◌, subst, ⊎_elim, arith}
+use Rattle.std.proofs.Common.{◌≡◌, ℕ, zero, suc, ◌+◌, ◌%◌, ◌<◌, ◌≤◌, max, Bool, true, false, ◌&&◌, eqb, List, length, Some, sym, refl, ap, ◌∙◌, subst, ⊎_elim, arith}
 use Rattle.std.specs.List.{slice_get}
 use Rattle.std.proofs.lemmas.Bool.{cases_eq, cases_lt, cases_Bool, both_ways, and_parts, eqb-true, eq-eqb, ne_eqb, cond-true, cond-false}
 use Rattle.arena.specs.Meaning.{Meaning, Lawful}
@@ -14,16 +14,9 @@ use Rattle.table.specs.Accepts.{Accepts}
 use Rattle.table.proofs.Lists.{some_same}
 use Rattle.table.proofs.Finds.{first_is, first_within, stands_first}
 use Rattle.runs.specs.Runs.{Endless, ticks, colour_at, priority_at, NoTick, Begins, is_us, times}
-use Rattle.runs.proofs.Counts.{below, below_most, one_or_none}
+use Rattle.runs.proofs.Counts.{below, below_most, times_mono}
 use Rattle.runs.proofs.Ranked.{Falls, one_more, leads_on}
 use Rattle.runs.proofs.Walks.{nth_there}
-
-times_mono : (f g : ℕ → Bool) (n k : ℕ) → ((j : ℕ) → k ≤ j → f j ≡ true → g j ≡ true) → times f k n ≤ times g k n
-times_mono f g zero k h = omega arith
-times_mono f g (suc n) k h =
-    let here : cond (f k) 1 0 ≤ cond (g k) 1 0 = one_or_none (f k) (g k) (h k (omega arith)) in
-    let rest : times f (suc k) n ≤ times g (suc k) n = times_mono f g n (suc k) (λ j b. h j (omega arith)) in
-    omega arith
 
 times_none : (f : ℕ → Bool) (n k : ℕ) → ((j : ℕ) → k ≤ j → f j ≡ false) → times f k n ≡ 0
 times_none f zero k h = refl
