@@ -3,7 +3,7 @@ use Rattle.std.proofs.Common.{◌≡◌, ℕ, zero, suc, ◌+◌, ◌<◌, ◌�
 use Rattle.std.proofs.lemmas.Bool.{cases_eq, both_ways, ltb-true, lt-ltb, le-ltb}
 use Rattle.runs.specs.Runs.{times}
 
-pub one_or_none : (a b : Bool) → (a ≡ true → b ≡ true) → cond a 1 0 ≤ cond b 1 0
+one_or_none : (a b : Bool) → (a ≡ true → b ≡ true) → cond a 1 0 ≤ cond b 1 0
 one_or_none true true h = omega arith
 one_or_none true false h = absurd (both_ways false refl (h refl))
 one_or_none false true h = omega arith

@@ -1,7 +1,8 @@
 -- What a round by an accepted table does to the ranks, and so to the tallies.
-use Rattle.std.proofs.Common.{◌≡◌, ℕ, ◌+◌, ◌%◌, ◌<◌, ◌≤◌, true, false, cond, eqb, ltb, List, [], ◌∷◌, length, Some, sym, refl, ◌∙◌, subst, ⊎_elim, arith}
-use Rattle.std.specs.List.{slice_get}
-use Rattle.std.proofs.lemmas.Bool.{cases_order, eq-eqb, ne_eqb, lt-ltb, le-ltb}
+use Rattle.std.proofs.Common.{◌≡◌, ℕ, suc, ◌+◌, ◌%◌, ◌<◌, ◌≤◌, true, false, cond, eqb, leb, List, ◌∷◌, length, take, Some, sym, refl, ap, ◌∙◌, subst, ⊎_elim, arith}
+use Rattle.std.specs.List.{slice_get, prefix_len, count_by}
+use Rattle.std.proofs.lemmas.List.Sums.{sum_by-cons}
+use Rattle.std.proofs.lemmas.Bool.{cases_order, cases_lt, eq-eqb, ne_eqb, lt-ltb, le-ltb, lt-leb, le-leb}
 use Rattle.arena.specs.Meaning.{Meaning, Lawful}
 use Rattle.arena.specs.declared.moves.Outcome.{Outcome}
 use Rattle.table.specs.declared.row.Row.{Row}
@@ -11,7 +12,7 @@ use Rattle.table.specs.Ranks.{rank_of}
 use Rattle.table.specs.Accepts.{Accepts}
 use Rattle.table.proofs.Finds.{first_stands, first_within, stands_first}
 use Rattle.runs.specs.Walk.{tallied}
-use Rattle.runs.specs.Counted.{since_larger, count_of, tally_of}
+use Rattle.runs.specs.Counted.{tally_of}
 use Rattle.runs.proofs.Counts.{below, below_most, below_mono, below_less}
 
 -- the rule of the ranks for one odd colour, at a round of colour c from row s to row t
@@ -41,11 +42,17 @@ one_more rk n p c s t k b le f h =
 -- what a tally counts
 pub counts : (p c : ℕ) (past : List ℕ) → tallied p c (tally_of p past) ≡ tally_of p (c ∷ past)
 counts p c past =
+    let n = prefix_len (λ x. leb x p) past in
+    let longer : suc n ≡ 1 + n = omega arith in
     let k = tally_of p past in
-    elim (ltb p c) as (λ b. cond b 0 (cond (eqb p c) (k + 1) k) ≡ count_of p (cond b [] (c ∷ since_larger p past))) [
-      | true ↦ refl
-      | false ↦ elim (eqb p c) as (λ b. cond b (k + 1) k ≡ cond b 1 0 + k) [ true ↦ omega arith | false ↦ omega arith ]
-    ]
+    ⊎_elim
+    (λ (h : p < c). rw (lt-ltb p c h, lt-leb c p h) refl)
+    (λ (h : c ≤ p). rw (le-ltb p c h, le-leb c p h) (
+    (elim (eqb p c) as (λ b. cond b (k + 1) k ≡ cond b 1 0 + k) [ true ↦ omega arith | false ↦ omega arith ])
+    ∙ sym (sum_by-cons (λ x. cond (eqb p x) 1 0) c (take n past))
+    ∙ ap (λ j. count_by (λ x. eqb p x) (take j (c ∷ past))) longer
+    ))
+    (cases_lt p c)
 
 module _ {P : Type 0} (m : Meaning P) (ok : Lawful m) (rows : List (Row P)) (ranks : List ℕ) (a : Accepts m rows ranks) where
   -- where an outcome of the row of a place leads

@@ -1,5 +1,6 @@
 -- What the rounds of a walk come to, from their outcomes alone, the latest first.
-use Rattle.std.specs.Prelude.{ℕ, ◌+◌, cond, List, [], ◌∷◌, length, ◌==◌, nat_lt}
+use Rattle.std.specs.Prelude.{ℕ, List, [], ◌∷◌, length, ◌==◌, nat_le}
+use Rattle.std.specs.List.{take_while, count_by}
 use Rattle.arena.specs.Meaning.{Meaning}
 use Rattle.arena.specs.declared.moves.Outcome.{Outcome}
 use Rattle.table.specs.Odd.{odd, for_each}
@@ -8,16 +9,11 @@ use Rattle.runs.specs.declared.state.Tally.{Tally}
 
 -- the rounds since the last of a colour larger than p
 abbrev pub since_larger : ℕ → List ℕ → List ℕ
-since_larger p [] = []
-since_larger p (c ∷ past) = cond (nat_lt p c) [] (c ∷ since_larger p past)
-
-abbrev pub count_of : ℕ → List ℕ → ℕ
-count_of p [] = 0
-count_of p (c ∷ cs) = cond (p == c) 1 0 + count_of p cs
+since_larger p = take_while (λ c. nat_le c p)
 
 -- what a tally of p counts in rounds of these colours
 abbrev pub tally_of : ℕ → List ℕ → ℕ
-tally_of p colours = count_of p (since_larger p colours)
+tally_of p colours = count_by (λ c. p == c) (since_larger p colours)
 
 module _ {P : Type 0} (m : Meaning P) where
   -- where the last round led
