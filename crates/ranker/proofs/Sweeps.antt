@@ -1,5 +1,5 @@
 -- How far a sweep has come.
-use Rattle.std.proofs.Common.{◌≡◌, ℕ, ◌<◌, List, [], ◌∷◌, ◌++◌, length, Some, None, Option, sym, ◌∙◌, subst, ⊎_elim}
+use Rattle.std.proofs.Common.{◌≡◌, ℕ, ◌<◌, ◌≤◌, List, [], ◌∷◌, ◌++◌, length, Some, None, Option, sym, ◌∙◌, subst, ⊎_elim, arith}
 use Rattle.std.specs.List.{ContainsAt}
 use Rattle.std.proofs.ByRecursion.{has_push_cases}
 use Rattle.plan.specs.declared.passage.Passage.{Passage}
@@ -7,8 +7,8 @@ use Rattle.ranker.specs.Arcs.{arc_at}
 use Rattle.table.specs.Odd.{odd}
 use Rattle.ranker.specs.declared.lifting.Lifting.{Lifting}
 use Rattle.ranker.specs.Task.{SameTask}
-use Rattle.ranker.specs.Lifts.{Met, Below, Moved, AllMet, AllSmallest}
-use Rattle.ranker.proofs.Raises.{met_smallest}
+use Rattle.ranker.specs.Lifts.{rank_in, due_by, Met, Below, Moved, AllMet, AllSmallest}
+use Rattle.ranker.proofs.Raises.{Raise, met_smallest}
 
 -- the arcs at these places are met
 abbrev pub MetAt : List Passage → ℕ → List ℕ → List ℕ → Type 0
@@ -36,6 +36,12 @@ same_trans x y = record { arcs = y.arcs ∙ x.arcs; colour = y.colour ∙ x.colo
 
 pub same_met : {was is : Lifting} → SameTask was is → (ranks : List ℕ) (k : ℕ) → Met (odd is.colour) ranks (arc_at is.arcs.list.now k) → Met (odd was.colour) ranks (arc_at was.arcs.list.now k)
 same_met same ranks k met = rw (← same.arcs, ← same.colour) met
+
+-- what lifts a row of it
+pub raise_of : (l : Lifting) (k v : ℕ) → length l.by ≡ 1024 → k < length l.arcs.list.now → (arc_at l.arcs.list.now k).colour ≤ odd l.colour → v ≡ due_by (odd l.colour) l.ranks.now (arc_at l.arcs.list.now k) →
+    rank_in l.ranks.now (arc_at l.arcs.list.now k).from < v → Raise l.arcs.list.now (odd l.colour) l.ranks.now l.by k v
+raise_of l k v long there small is up =
+    record { told = rw l.rows l.arcs.told; there = there; room = omega (arith, l.rows, l.arcs.small); small = small; is = is; up = up }
 
 -- after a sweep without a change the ranks are the smallest
 pub settled : (was is : Lifting) (r : Option ℕ) → SameTask was is → Below was.ranks.now → r ≡ None → Moved (AllMet was.arcs.list.now (odd was.colour)) was.ranks.now is.ranks.now r →

@@ -36,7 +36,7 @@ impl Arcs<'_> {
         requires rows { length ranks.old ≡ self.now.rows }
         requires room { self.now.rows ≤ length losing.old }
         ensures drafted { (g : Graph) → Tells self.now.rows self.now.list.now g → DraftedFor g (odd colour) losing.old result ranks.new losing.new }
-        ensures rest { is_ok result ≡ true → losing.new ≡ losing.old }
+        ensures pairs { is_ok result ≡ true → losing.new ≡ losing.old }
     {
         let mut lifting = Lifting::new(*self, colour, ranks);
         match lifting.settle() {
@@ -54,7 +54,7 @@ impl Arcs<'_> {
         requires rows { length draft.old ≡ 4 * self.now.rows }
         requires room { self.now.rows ≤ length losing.old }
         ensures drafted { (g : Graph) → Tells self.now.rows self.now.list.now g → Drafted g self.now.rows losing.old result draft.new losing.new }
-        ensures rest { is_ok result ≡ true → losing.new ≡ losing.old }
+        ensures pairs { is_ok result ≡ true → losing.new ≡ losing.old }
     {
         let n = self.rows;
         for (q, &colour) in OddColour::ALL.iter().enumerate() {
@@ -69,7 +69,7 @@ impl Arcs<'_> {
         requires rows { length ranks.old ≡ 4 * self.now.rows }
         requires room { self.now.rows ≤ length losing.old }
         ensures drafted { (g : Graph) → Tells self.now.rows self.now.list.now g → Drafted g self.now.rows losing.old result ranks.new losing.new }
-        ensures loops { is_ok result ≡ true → losing.new ≡ losing.old }
+        ensures pairs { is_ok result ≡ true → losing.new ≡ losing.old }
         ensures ranks { is_ok result ≡ false → ranks.new ≡ ranks.old }
     {
         let mut room = [0; MAX_RANKS];

@@ -1,10 +1,10 @@
 //! The ranks of one odd colour, lifted from 0 until every arc is met.
-ghost use Rattle.std.specs.Prelude.{◌≡◌, ℕ, ◌^◌, ◌<◌, ◌≤◌, length, MatchOption, slice_index};
+ghost use Rattle.std.specs.Prelude.{◌≡◌, ◌<◌, ◌≤◌, length, MatchOption, slice_index};
 ghost use Rattle.std.specs.Iterator.{IsFinite};
 ghost use Rattle.table.specs.Odd.{odd};
 ghost use Rattle.loops.specs.Graph.{Graph};
 ghost use Rattle.ranker.specs.Arcs.{arc_at, Tells};
-ghost use Rattle.ranker.specs.Lifts.{rank_in, due_by, Met, Below, slack, Owned, LiftedBy, OnRings, Covers, Moved, AllMet, AllSmallest};
+ghost use Rattle.ranker.specs.Lifts.{rank_in, due_by, Met, Below, Owned, LiftedBy, OnRings, Covers, Moved, AllMet, AllSmallest};
 ghost use Rattle.ranker.specs.Loops.{Written};
 
 use crate::arcs::Arcs;

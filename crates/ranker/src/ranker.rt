@@ -1,5 +1,5 @@
 //! The ranker.
-ghost use Rattle.std.specs.Prelude.{◌≡◌, ℕ, ◌*◌, ◌%◌, ◌^◌, ◌<◌, ◌≤◌, false, List, length, is_ok, IsTrue, ◌↔◌};
+ghost use Rattle.std.specs.Prelude.{is_ok, IsTrue, ◌↔◌};
 ghost use Rattle.ranker.specs.Ranked.{form_faults, Ranked, Sound, RankedOr};
 
 use crate::arcs::Arcs;

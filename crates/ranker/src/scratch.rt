@@ -1,5 +1,7 @@
 //! Memory to rank with.
-ghost use Rattle.std.specs.Prelude.{◌≡◌, ◌≤◌, [], IfOk, vec_capacity};
+ghost use Rattle.std.specs.Prelude.{◌≡◌, ◌*◌, ◌≤◌, [], IfOk, vec_capacity};
+ghost use Rattle.table.specs.declared.row.TheConstants.{MAX_ROWS};
+ghost use Rattle.ranker.specs.declared.scratch.TheConstants.{KEYS};
 
 use plan::passage::Passage;
 use std::alloc::{AllocError, Global};
@@ -15,7 +17,7 @@ pub(crate) const KEYS: usize = MAX_ROWS * COLOURS;
 #[derive(Drop)]
 pub struct Scratch {
     pub(crate) arcs: Vec<Passage>,
-    ghost room: { 8388608 ≤ vec_capacity arcs },
+    ghost room: { KEYS * MAX_ROWS ≤ vec_capacity arcs },
 }
 
 impl Scratch {

@@ -45,7 +45,7 @@ returns g c =
     let e = c.in_ok-accepted.ensures in
     let a = c.in_ok-accepted.accepted in
     let d = c.in_ok-rank.ensures.drafted (graph_of m rows) (told m rows ranks losing a e.answers _ _ _ c.deref.ensures.value (e.shown refl)) in
-    let rest = c.in_ok-rank.ensures.loops refl in
+    let rest = c.in_ok-rank.ensures.pairs refl in
     record {
       ranked = filled m rows ranks losing a e.answers c.rank.new.ranks c.rank.new.losing d rest c.rank.auto.ranks;
       exact = filled_exact m rows ranks losing a e.answers c.rank.new.ranks c.rank.new.losing d rest c.rank.auto.ranks;

@@ -28,7 +28,7 @@ loop-q-preserved c =
     let q = c.loop-q.q in
     let n = c.args.self.now.rows in
     let part = stretch_length q n c.loop-q.draft (omega arith) (omega arith) in (
-      c.in_ok-draft_colour.ensures.rest refl ∙ c.loop-q.invariant.0,
+      c.in_ok-draft_colour.ensures.pairs refl ∙ c.loop-q.invariant.0,
       λ g tells.
           let ranks = c.draft_colour.new.ranks in
           let new : Smallest g (2 * q + 1) (rank_in ranks) = subst (λ (p : ℕ). Smallest g p (rank_in ranks)) (odd_at q _ (omega arith)) (c.in_ok-draft_colour.ensures.drafted g tells) in

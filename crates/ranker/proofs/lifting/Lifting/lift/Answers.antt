@@ -1,15 +1,14 @@
 use Rattle.std.proofs.Common.{◌∙◌, arith}
 use Rattle.std.proofs.lemmas.List.{length-set}
-use Rattle.table.specs.Odd.{odd}
 use Rattle.ranker.specs.Arcs.{arc_at}
-use Rattle.ranker.proofs.Raises.{Raise, arc_from, owned_repicked, owned_more, lifted_again, lifted_higher, moved}
+use Rattle.ranker.proofs.Raises.{arc_from, owned_repicked, owned_more, lifted_again, lifted_higher, moved}
+use Rattle.ranker.proofs.Sweeps.{raise_of}
 use Rattle.ranker.proofs.lifting.Lifting.lift.Goals as goal
 
 pub invariant_of-self : goal.invariant_of-self
 invariant_of-self c =
     let self = c.args.self.now in
-    let raise : Raise self.arcs.list.now (odd self.colour) self.ranks.now self.by c.args.k c.due-due.result =
-    record { told = rw self.rows self.arcs.told; there = c.requires.there; room = omega (arith, self.rows, self.arcs.small); small = omega arith; is = c.due-due.ensures; up = omega arith } in
+    let raise = raise_of self c.args.k c.due-due.result (omega arith) c.requires.there (omega arith) c.due-due.ensures (omega arith) in
     record { rows = self.rows; own = owned_repicked raise self.own; lifted = lifted_again raise self.lifted }
 
 pub bounds-self-row-3 : goal.bounds-self-row-3
@@ -20,14 +19,10 @@ bounds-self-row-3 c =
 pub invariant_of-self-2 : goal.invariant_of-self-2
 invariant_of-self-2 c =
     let self = c.args.self.now in
-    let raise : Raise self.arcs.list.now (odd self.colour) self.ranks.now self.by c.args.k c.due-due.result =
-    record { told = rw self.rows self.arcs.told; there = c.requires.there; room = omega (arith, self.rows, self.arcs.small); small = omega arith; is = c.due-due.ensures; up = omega arith } in
+    let raise = raise_of self c.args.k c.due-due.result (omega arith) c.requires.there (omega arith) c.due-due.ensures (omega arith) in
     let long = length-set self.ranks.now (arc_at self.arcs.list.now c.args.k).from c.due-due.result in
     record { rows = long ∙ self.rows; own = owned_more raise self.own; lifted = lifted_higher raise self.lifted }
 
 pub returns-clause-moved : goal.returns-clause-moved
 returns-clause-moved c =
-    let self = c.args.self.now in
-    let raise : Raise self.arcs.list.now (odd self.colour) self.ranks.now self.by c.args.k c.due-due.result =
-    record { told = rw self.rows self.arcs.told; there = c.requires.there; room = omega (arith, self.rows, self.arcs.small); small = omega arith; is = c.due-due.ensures; up = omega arith } in
-    moved raise c.requires.below
+    moved (raise_of c.args.self.now c.args.k c.due-due.result (omega arith) c.requires.there (omega arith) c.due-due.ensures (omega arith)) c.requires.below
