@@ -1,7 +1,7 @@
 -- Runs over a goal are the runs below, with the automaton's states beside them.
 use Rattle.std.proofs.Common.{◌≡◌, ℕ, zero, suc, true, List, [], ◌∷◌, map, Some, None, Option, sym, refl, ap, ◌∙◌, subst, ap₂, ⊎_elim}
 use Rattle.std.specs.List.{slice_get, AllByRecursion}
-use Rattle.std.specs.Option.{option_map, option_flatten}
+use Rattle.std.specs.Option.{option_map, option_and_then}
 use Rattle.std.proofs.lemmas.Option.{none-some}
 use Rattle.std.proofs.lemmas.Bool.{cond-true, cases_Bool}
 use Rattle.arena.specs.Meaning.{Meaning, Lawful}
@@ -18,9 +18,9 @@ mapped_some : {X Y : Type 0} (f : X → Y) (o : Option X) (y : Y) → option_map
 mapped_some f None y e = absurd (none-some _ e)
 mapped_some f (Some x) y e = (x, refl, cc)
 
-flattened_some : {X Y : Type 0} (f : X → Option Y) (o : Option X) (y : Y) → option_flatten (option_map f o) ≡ Some y → (x : X) × (o ≡ Some x) × (f x ≡ Some y)
-flattened_some f None y e = absurd (none-some _ e)
-flattened_some f (Some x) y e = (x, refl, e)
+taken_some : {X Y : Type 0} (f : X → Option Y) (o : Option X) (y : Y) → option_and_then f o ≡ Some y → (x : X) × (o ≡ Some x) × (f x ≡ Some y)
+taken_some f None y e = absurd (none-some _ e)
+taken_some f (Some x) y e = (x, refl, e)
 
 all_nth : {X : Type 0} (F : X → Type 0) (xs : List X) (i : ℕ) (x : X) → AllByRecursion F xs → slice_get xs i ≡ Some x → F x
 all_nth F [] i x h e = absurd (none-some _ e)
@@ -44,7 +44,7 @@ module _ {P : Type 0} (m : Meaning P) (ok : Lawful m) where
   own_from : (ks : List Pick) (p : P) (os : List (Outcome P)) → run_from m p ks ≡ Some os → AllByRecursion Own (map (λ o. o.position) os)
   own_from [] p os e = let s : [] ≡ os = cc in subst (λ xs. AllByRecursion Own (map (λ o. o.position) xs)) s tt
   own_from (k ∷ ks) p os e =
-      let first = flattened_some (λ o. option_map (◌∷◌ o) (run_from m o.position ks)) (slice_get (m.outcomes p k.choice) k.number) os e in
+      let first = taken_some (λ o. option_map (◌∷◌ o) (run_from m o.position ks)) (slice_get (m.outcomes p k.choice) k.number) os e in
       let rest = mapped_some (◌∷◌ first.0) (run_from m first.0.position ks) os first.2 in
       subst (λ xs. AllByRecursion Own (map (λ o. o.position) xs)) rest.2 (own_outcome p k first.0 first.1, own_from ks first.0.position rest.0 rest.1)
 
@@ -67,8 +67,8 @@ module _ {P : Type 0} (m : Meaning P) (ok : Lawful m) (g : Goal) where
   Beside ks = (s : ℕ) → exists g s ≡ true → (p : P) → run_from (goal_meaning m g) (record { below = p; state = s }) ks ≡ option_map (beside s) (run_from m p ks)
 
   onward : (ks : List Pick) → Beside ks → (s : ℕ) → exists g s ≡ true → (x : Option (Outcome P)) →
-      option_flatten (option_map (λ o. option_map (◌∷◌ o) (run_from (goal_meaning m g) o.position ks)) (option_map (raised m g s) x))
-      ≡ option_map (beside s) (option_flatten (option_map (λ o. option_map (◌∷◌ o) (run_from m o.position ks)) x))
+      option_and_then (λ o. option_map (◌∷◌ o) (run_from (goal_meaning m g) o.position ks)) (option_map (raised m g s) x)
+      ≡ option_map (beside s) (option_and_then (λ o. option_map (◌∷◌ o) (run_from m o.position ks)) x)
   onward ks rest s e None = refl
   onward ks rest s e (Some o) =
       ap (option_map (◌∷◌ (raised m g s o))) (rest (after g s (m.label o.position)) (after_exists g s e (m.label o.position)) o.position)
@@ -78,7 +78,7 @@ module _ {P : Type 0} (m : Meaning P) (ok : Lawful m) (g : Goal) where
   run_beside [] s e p = refl
   run_beside (k ∷ ks) s e p =
       let found = slice_get (m.outcomes p k.choice) k.number in
-      ap (λ x. option_flatten (option_map (λ o. option_map (◌∷◌ o) (run_from (goal_meaning m g) o.position ks)) x)) (sym (by_number m ok g (record { below = p; state = s }) k.choice e k.number found refl))
+      ap (option_and_then (λ o. option_map (◌∷◌ o) (run_from (goal_meaning m g) o.position ks))) (sym (by_number m ok g (record { below = p; state = s }) k.choice e k.number found refl))
       ∙ onward ks (run_beside ks) s e found
 
   abbrev first : ℕ

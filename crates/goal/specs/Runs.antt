@@ -1,7 +1,7 @@
 -- Runs of an arena, and what a goal over it adds to them.
 use Rattle.std.specs.Prelude.{◌≡◌, ℕ, List, [], ◌∷◌, map, Some, Option}
 use Rattle.std.specs.List.{slice_get}
-use Rattle.std.specs.Option.{option_map, option_flatten}
+use Rattle.std.specs.Option.{option_map, option_and_then}
 use Rattle.arena.specs.Meaning.{Meaning}
 use Rattle.arena.specs.declared.moves.Move.{Move}
 use Rattle.arena.specs.declared.moves.Outcome.{Outcome}
@@ -18,7 +18,7 @@ pub record Pick : Type 0 where
 -- The rounds that picks make from a position on. There is no such run where a picked outcome is not there, as of a move that is not legal.
 abbrev pub run_from : {P : Type 0} → Meaning P → P → List Pick → Option (List (Outcome P))
 run_from m p [] = Some []
-run_from m p (k ∷ ks) = option_flatten (option_map (λ o. option_map (◌∷◌ o) (run_from m o.position ks)) (slice_get (m.outcomes p k.choice) k.number))
+run_from m p (k ∷ ks) = option_and_then (λ o. option_map (◌∷◌ o) (run_from m o.position ks)) (slice_get (m.outcomes p k.choice) k.number)
 
 -- a run begins at the start
 abbrev pub run : {P : Type 0} → Meaning P → List Pick → Option (List (Outcome P))
