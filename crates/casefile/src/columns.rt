@@ -22,8 +22,7 @@ pub(crate) fn fill_columns(columns: &mut Vec<u16>, ranks: &[Ranks])
     requires { (columns.old.items ≡ []) × (4 * length ranks.now ≤ vec_capacity columns.old) }
     ensures { columns.new.items ≡ rank_list ranks.now }
 {
-    push_column(columns, ranks, OddColour::One);
-    push_column(columns, ranks, OddColour::Three);
-    push_column(columns, ranks, OddColour::Five);
-    push_column(columns, ranks, OddColour::Seven);
+    for colour in OddColour::ALL {
+        push_column(columns, ranks, colour);
+    }
 }
