@@ -1,5 +1,4 @@
-use Rattle.std.proofs.Common.{rules, of_calls, ◌≡◌, ◌+◌, ◌<◌, ◌^◌, false, length, get_or, eqb, refl, inl, ap, ◌∙◌, sym, arith}
-use Rattle.std.specs.List.{enumerate_from}
+use Rattle.std.proofs.Common.{rules, of_calls, ◌≡◌, ◌+◌, ◌<◌, ◌^◌, false, length, eqb, refl, inl, ap, ◌∙◌, sym, arith}
 use Rattle.std.proofs.lemmas.Bool.{cond-true, eq-eqb}
 use Rattle.std.proofs.lemmas.List.FromFn.{get_or-enumerate_from, length-enumerate_from}
 use Rattle.std.proofs.lemmas.Iterator.Adapters.{serves_from_places}
@@ -7,7 +6,7 @@ use Rattle.std.proofs.lemmas.Iterator.Consumers.{YieldsList-at, YieldsList-from_
 use Rattle.std.proofs.lemmas.Iterator.Splits.{YieldsList-from_slice_split}
 use borrow.Author.Tests.{tests}
 use Rattle.casetext.specs.Text.{fields}
-use Rattle.casetext.specs.Lines.{forms, line_fault}
+use Rattle.casetext.specs.Lines.{forms}
 use Rattle.casetext.proofs.Faults.{wrong_at, wrongs_are, least_from}
 use Rattle.casefile.specs.Draft.{said}
 use Rattle.casefile.proofs.lines.line_fault.Goals as goal

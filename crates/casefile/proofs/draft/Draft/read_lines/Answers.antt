@@ -1,16 +1,13 @@
-use Rattle.std.proofs.Common.{◌≡◌, ◌+◌, ◌<◌, [], length, Ok, Err, unwrap_or, sym, refl, ap, ◌∙◌, arith, true-eqb, false-eqb}
+use Rattle.std.proofs.Common.{◌≡◌, ◌+◌, ◌<◌, [], length, Ok, Err, unwrap_or, sym, refl, ap, ◌∙◌, arith, false-eqb}
 use Rattle.std.specs.Option.{option_map}
 use Rattle.std.proofs.lemmas.Result.{err_from_is_err_and}
 use Rattle.casetext.specs.Text.{lines, line_feed}
 use Rattle.casetext.specs.Case.{read_lines}
-use Rattle.casetext.proofs.Reading.{next_line, no_line, now_or}
-use Rattle.casetext.proofs.Splits.{before_short, line_shorter}
+use Rattle.casetext.proofs.Reading.{next_line, now_or}
+use Rattle.casetext.proofs.Splits.{line_shorter}
 use Rattle.casefile.specs.Draft.{said}
 use Rattle.casefile.proofs.draft.Draft.read_lines.Goals as goal
 use Rattle.casefile.proofs.draft.Draft.read_lines.Goals.{After-unwrap_or-rest}
-
-pub read_line-requires : goal.read_line-requires
-read_line-requires c = omega (arith, ap length c.cut.ensures.front, before_short line_feed c.loop-rest.rest.now)
 
 pub returns-in_err-read_line : goal.returns-in_err-read_line
 returns-in_err-read_line c =
@@ -35,6 +32,3 @@ loop-rest-preserved c = (
   c.loop-rest.invariant.1 ∙ next_line c.loop-rest.number (said c.loop-rest.self) c.loop-rest.rest.now c.cut.result.0.now (option_map (λ x. x.now) c.cut.result.1) (Ok (said c.read_line.new.self)) (some_left c) c.cut.ensures.front c.cut.ensures.rest c.in_ok-read_line.ensures
       ∙ ap (λ x. read_lines (c.loop-rest.number + 1) (Ok (said c.read_line.new.self)) (lines x)) (sym (rest_is c)),
 )
-
-pub returns : goal.returns
-returns c = sym (c.loop-rest.invariant.1 ∙ no_line c.loop-rest.number (said c.loop-rest.self) c.loop-rest.rest.now (true-eqb _ 0 c.loop-rest-test.ensures))
