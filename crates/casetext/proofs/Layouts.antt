@@ -1,8 +1,8 @@
 -- The forms of a line's fields, one by one.
-use Rattle.std.proofs.Common.{◌≡◌, ℕ, zero, suc, ◌+◌, ◌-◌, ◌*◌, ◌%◌, ◌<◌, ◌≤◌, cond, eqb, List, [], ◌∷◌, ◌++◌, map, length, get_or, replicate, refl, ap, ◌∙◌, arith, lit≤}
-use Rattle.std.proofs.lemmas.List.{length-map, length-append, get_or-append_right, get_or-map, get_or-replicate}
+use Rattle.std.proofs.Common.{◌≡◌, ℕ, zero, suc, ◌+◌, ◌-◌, ◌*◌, ◌%◌, ◌<◌, ◌≤◌, cond, eqb, List, [], ◌∷◌, ◌++◌, length, get_or, replicate, refl, ap, ◌∙◌, arith, lit≤}
+use Rattle.std.proofs.lemmas.List.{length-map, length-append, get_or-append_right, get_or-replicate}
 use Rattle.casetext.specs.declared.line.Form.{Form}
-use Rattle.casetext.specs.declared.line.Form.TheVariants.{Number, Interval, Choice}
+use Rattle.casetext.specs.declared.line.Form.TheVariants.{Number, Choice}
 use Rattle.casetext.specs.declared.line.Kind.{Kind}
 use Rattle.casetext.specs.declared.line.Kind.TheVariants.{Clock, Loc, Edge, Row}
 use Rattle.casetext.specs.Fields.{max_location}
@@ -33,10 +33,6 @@ few_forms s Clock few = lit≤ tt
 few_forms s Loc few = omega (arith, length_loc s)
 few_forms s Edge few = omega (arith, length_edge s)
 few_forms s Row few = omega (arith, length_row s)
-
--- an interval for each clock, after n other fields
-pub interval_at : (pre : List Form) (cs : List ℕ) (n i : ℕ) (d : Form) → length pre ≡ n → n ≤ i → i < n + length cs → get_or (pre ++ map Interval cs) i d ≡ Interval (get_or cs (i - n) 0)
-interval_at pre cs n i d e low high = get_or-append_right pre (map Interval cs) n i d e low ∙ get_or-map Interval cs (i - n) 0 d (omega arith)
 
 -- whole parts and classes in turn
 standing_at : (cs : List ℕ) (t : List Form) (j : ℕ) (d : Form) → j < 2 * length cs + 2 → get_or (standings cs ++ t) j d ≡ cond (eqb (j % 2) 0) (Number 0 max_whole) (Number 0 max_class)

@@ -1,7 +1,7 @@
 -- Steps of the loop that reads a number.
-use Rattle.std.proofs.Common.{◌≡◌, ℕ, ◌+◌, ◌-◌, ◌*◌, ◌<◌, ◌≤◌, true, false, List, [], ◌∷◌, length, get_or, drop, Some, None, refl, ◌∙◌, arith}
+use Rattle.std.proofs.Common.{◌≡◌, ℕ, ◌+◌, ◌-◌, ◌*◌, ◌<◌, true, List, [], ◌∷◌, length, get_or, drop, None, refl, ◌∙◌, arith}
 use Rattle.std.specs.Char.{is_ascii_digit}
-use Rattle.std.proofs.lemmas.List.{at_drop_more, at_drop_all}
+use Rattle.std.proofs.lemmas.List.{at_drop_more}
 use Rattle.std.proofs.lemmas.Bool.{lt-leb, cond-true, cond-false, cond_both, and_right}
 use Rattle.casetext.specs.Text.{digits, within}
 
@@ -13,9 +13,3 @@ above low high (b ∷ bs) n h =
 
 pub next_digit : (bs : List ℕ) (i n : ℕ) → i < length bs → is_ascii_digit (get_or bs i 0) ≡ true → digits n (drop i bs) ≡ digits (n * 10 + (get_or bs i 0 - 48)) (drop (i + 1) bs)
 next_digit bs i n h d = at_drop_more (digits n) bs i 0 h ∙ cond-true _ _ _ d
-
-pub no_digit : (bs : List ℕ) (i n : ℕ) → i < length bs → is_ascii_digit (get_or bs i 0) ≡ false → digits n (drop i bs) ≡ None
-no_digit bs i n h d = at_drop_more (digits n) bs i 0 h ∙ cond-false _ _ _ d
-
-pub at_end : (bs : List ℕ) (i n : ℕ) → length bs ≤ i → digits n (drop i bs) ≡ Some n
-at_end bs i n h = at_drop_all (digits n) bs i h

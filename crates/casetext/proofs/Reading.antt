@@ -1,7 +1,6 @@
 -- Steps of reading, line by line, and of filling a list.
-use Rattle.std.proofs.Common.{◌≡◌, ℕ, ◌+◌, ◌<◌, List, [], ◌++◌, length, Some, None, Ok, Option, Result, unwrap_or, sym, refl, ap, ◌∙◌, append_assoc, Bor}
+use Rattle.std.proofs.Common.{◌≡◌, ℕ, ◌+◌, ◌<◌, List, [], length, Some, None, Ok, Option, Result, unwrap_or, sym, refl, ap, ◌∙◌, Bor}
 use Rattle.std.specs.Option.{option_map}
-use Rattle.std.proofs.lemmas.List.{nil_from_length}
 use Rattle.casetext.specs.declared.fault.TextFault.{TextFault}
 use Rattle.casetext.specs.Text.{lines, before, behind, line_feed}
 use Rattle.casetext.specs.Lines.{Said}
@@ -15,14 +14,6 @@ next_line n s bs line o r h front rest told =
     ∙ ap (λ l. read_lines (n + 1) (read_line (n + 1) s l) (lines (unwrap_or o []))) (sym front)
     ∙ ap (λ t. read_lines (n + 1) t (lines (unwrap_or o []))) (sym told)
 
-pub no_line : (n : ℕ) (s : Said) (bs : List ℕ) → length bs ≡ 0 → read_lines n (Ok s) (lines bs) ≡ Ok s
-no_line n s bs none = ap (λ x. read_lines n (Ok s) (lines x)) (nil_from_length bs none)
-
 pub now_or : (o : Option (Bor (List ℕ))) (d : Bor (List ℕ)) → d.now ≡ [] → (unwrap_or o d).now ≡ unwrap_or (option_map (λ x. x.now) o) []
 now_or None d e = e
 now_or (Some x) d e = refl
-
--- a list that is filled from the front of another
-pub carry : {Y : Type 0} {all items' : List Y} (items rest rest' piece : List Y) → all ≡ items ++ rest → rest ≡ piece ++ rest' → items' ≡ items ++ piece → all ≡ items' ++ rest'
-carry items rest rest' piece inv more push =
-    inv ∙ ap (λ x. items ++ x) more ∙ sym (append_assoc items piece rest') ∙ ap (λ x. x ++ rest') (sym push)

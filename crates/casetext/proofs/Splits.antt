@@ -1,9 +1,9 @@
 -- A text cut at a separator.
-use Rattle.std.proofs.Common.{◌≡◌, ℕ, ◌+◌, ◌<◌, ◌≤◌, true, false, cond, not, eqb, ltb, List, [], ◌∷◌, length, take, drop, Some, None, Option, unwrap_or, sym, refl, ap, ◌∙◌, inl, inr, arith, lit≤}
+use Rattle.std.proofs.Common.{◌≡◌, ℕ, ◌+◌, ◌<◌, true, false, cond, not, eqb, ltb, List, [], ◌∷◌, length, take, drop, Some, None, Option, unwrap_or, sym, refl, ap, ◌∙◌, inl, inr, arith}
 use Rattle.std.specs.List.{position_or_len, position, onto_first}
 use Rattle.std.proofs.lemmas.List.{take_all}
 use Rattle.std.proofs.lemmas.Option.{same_Some, none-some}
-use Rattle.std.proofs.lemmas.Bool.{cases_Bool, cond-true, cond-false, cond_both, ltb-false}
+use Rattle.std.proofs.lemmas.Bool.{cases_Bool, cond-true, cond-false, ltb-false}
 use Rattle.std.proofs.lemmas.Bool.Decides.{nat_tests}
 use Rattle.std.proofs.lemmas.Grind.{common_steps}
 use Rattle.casetext.specs.Text.{lines, before, behind, line_feed}
@@ -50,10 +50,6 @@ behind_shorter sep (b ∷ bs) q e =
       | true ↦ λ e. let same : bs ≡ q = cc in omega (arith, ap length same)
       | false ↦ λ e. omega (arith, behind_shorter sep bs q e)
     ] e
-
-pub before_short : (sep : ℕ) (bs : List ℕ) → length (before sep bs) ≤ length bs
-before_short sep [] = lit≤ tt
-before_short sep (b ∷ bs) = cond_both (eqb b sep) _ _ (λ x. length x ≤ length (b ∷ bs)) (λ _. omega arith) (λ _. omega (arith, before_short sep bs))
 
 -- a text that is not empty has a first line, and those of what comes after it
 pub line_more : (bs : List ℕ) (o : Option (List ℕ)) → 0 < length bs → behind line_feed bs ≡ o → lines bs ≡ before line_feed bs ∷ lines (unwrap_or o [])
