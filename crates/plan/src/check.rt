@@ -20,9 +20,7 @@ use table::row::{MAX_LATCH, MAX_ROWS, Row};
 fn is_own<A: Arena>(arena: &A, row: &Row<A::Position>) -> bool
     ensures { result ≡ is_own (A.Arena.meaning arena.now) row.now }
 {
-    arena.owns(&row.position)
-        && arena.priority(&row.position) <= row.latch
-        && row.latch <= MAX_LATCH
+    arena.owns(&row.position) && (arena.priority(&row.position)..=MAX_LATCH).contains(&row.latch)
 }
 
 /// An outcome of a row's move: the number and the latch of the row, and the outcome with its own number.

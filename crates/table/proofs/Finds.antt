@@ -9,18 +9,6 @@ use Rattle.table.specs.Rows.{StandsAt, is_for, first_row}
 use Rattle.table.proofs.Lists.{none_some, some_same, nth_within}
 
 module _ {P : Type 0} (m : Meaning P) (p : P) (l : ℕ) where
-  -- as a search finds it: no row before stands there, and this one does, or there is none
-  pub first_at : (rows : List (Row P)) (t : ℕ) (r : Row P) → ((k : ℕ) (q : Row P) → k < t → slice_get rows k ≡ Some q → is_for m p l q ≡ false) →
-      slice_get rows t ≡ Some r → is_for m p l r ≡ true → first_row m rows p l ≡ Some t
-  first_at [] t r before e h = absurd (none_some e)
-  first_at (x ∷ rows) zero r before e h = let q : x ≡ r = some_same e in rw (q, h)
-  first_at (x ∷ rows) (suc t) r before e h =
-      rw (before 0 x (omega arith) refl, first_at rows t r (λ k q b. before (suc k) q (omega arith)) e h)
-
-  pub first_none : (rows : List (Row P)) → ((k : ℕ) (q : Row P) → slice_get rows k ≡ Some q → is_for m p l q ≡ false) → first_row m rows p l ≡ None
-  first_none [] before = refl
-  first_none (x ∷ rows) before = rw (before 0 x refl, first_none rows (λ k. before (suc k)))
-
   -- what the first row is
   pub record First (rows : List (Row P)) (t : ℕ) : Type 0 where
     pub row : Row P

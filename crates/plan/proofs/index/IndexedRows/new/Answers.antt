@@ -1,5 +1,4 @@
-use Rattle.std.proofs.Common.{◌≡◌, ◌∷◌, ◌++◌, [], List, length, get_or, set, replicate, ℕ, Some, None, refl, sym, ap, ◌∙◌, subst, append-nil, add-one, arith}
-use Rattle.std.specs.List.{slice_get}
+use Rattle.std.proofs.Common.{◌≡◌, ◌∷◌, [], length, get_or, set, replicate, ℕ, Some, None, refl, sym, ap, ◌∙◌, subst, append-nil, arith}
 use Rattle.std.proofs.lemmas.List.{length-append, length-set}
 use Rattle.plan.specs.Index.{Indexes}
 use Rattle.plan.proofs.Buckets.{index_none, index_more, one_more, one_less, taken_at}

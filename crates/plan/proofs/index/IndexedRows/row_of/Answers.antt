@@ -1,4 +1,4 @@
-use Rattle.std.proofs.Common.{◌≡◌, ℕ, ◌-◌, ◌<◌, length, get_or, Some, None, Option, unwrap_or, refl, sym, subst, arith, rules}
+use Rattle.std.proofs.Common.{ℕ, ◌-◌, ◌<◌, length, get_or, None, Option, unwrap_or, refl, sym, subst, arith, rules}
 use Rattle.std.proofs.lemmas.Option.{slice_get-get_or}
 use Rattle.plan.proofs.Buckets.{Sought, look_first, look_within, look_found, look_more, look_nearer, look_none}
 use Rattle.plan.proofs.index.IndexedRows.row_of.Goals as goal
