@@ -5,6 +5,7 @@ use Rattle.arena.specs.Meaning.{Meaning}
 use Rattle.table.specs.declared.row.Row.{Row}
 use Rattle.table.specs.declared.accepted.Accepted.{Accepted}
 use Rattle.table.specs.declared.fault.Fault.{Fault}
+use Rattle.table.specs.Odd.{odd}
 use Rattle.table.specs.Ranks.{rank_of}
 use Rattle.table.specs.Check.{judged, outcomes_in}
 use Rattle.table.proofs.Lists.{verdict_ok}
@@ -64,7 +65,7 @@ module _ {P : Type 0} (m : Meaning P) (rows : List (Row P)) (ranks : List ℕ) (
       pub refuted_exact : IsTrue (is_ok r) ↔ Sound m rows ranks losing
       refuted_exact =
           let no : is_ok r ≡ false = ap is_ok is in
-          (λ e. absurd (both_ways (is_ok r) no e), λ s. absurd (s.1 (d.1, d.3.loop, d.3.losing)))
+          (λ e. absurd (both_ways (is_ok r) no e), λ s. absurd (s.1 (odd d.1, d.3.loop, d.3.losing)))
 
     -- the smallest ranks
     module _ (d : Drafted (graph_of m rows) (length rows) losing (Ok tt) ranks' losing') (rest : losing' ≡ losing) (long : length ranks' ≡ length ranks) where

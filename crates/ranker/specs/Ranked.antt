@@ -5,6 +5,8 @@ use Rattle.table.specs.declared.row.Row.{Row}
 use Rattle.table.specs.declared.accepted.Accepted.{Accepted}
 use Rattle.table.specs.declared.fault.Fault.{Fault}
 use Rattle.table.specs.declared.fault.Fault.TheVariants.{LosingLoop}
+use Rattle.table.specs.declared.odd.OddColour.{OddColour}
+use Rattle.table.specs.Odd.{odd}
 use Rattle.table.specs.Ranks.{rank_of}
 use Rattle.table.specs.Check.{faults, outcomes_in, checked}
 use Rattle.loops.specs.declared.pair.Pair.{Pair}
@@ -35,10 +37,10 @@ module _ {P : Type 0} (m : Meaning P) (rows : List (Row P)) (ranks : List ℕ) (
   -- a losing loop is written, of the smallest odd colour that is the largest of one
   pub record Refutes (r : Result Accepted Fault) (ranks' : List ℕ) (losing' : List Pair) : Type 0 where
     pub length : ℕ
-    pub colour : ℕ
+    pub colour : OddColour
     pub answer : r ≡ Err (LosingLoop length colour)
-    pub written : Written (graph_of m rows) colour losing length losing'
-    pub least : (p : ℕ) → p < colour → NoLoop (graph_of m rows) p
+    pub written : Written (graph_of m rows) (odd colour) losing length losing'
+    pub least : (p : ℕ) → p < odd colour → NoLoop (graph_of m rows) p
     pub rest : ranks' ≡ ranks
 
   -- what is answered and what the lists hold then, by the faults of form

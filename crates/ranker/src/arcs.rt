@@ -35,14 +35,14 @@ impl Arcs<'_> {
     ) -> Result<(), Fault>
         requires rows { length ranks.old ≡ self.now.rows }
         requires room { self.now.rows ≤ length losing.old }
-        ensures drafted { (g : Graph) → Tells self.now.rows self.now.list.now g → DraftedFor g (odd colour) losing.old result ranks.new losing.new }
+        ensures drafted { (g : Graph) → Tells self.now.rows self.now.list.now g → DraftedFor g colour losing.old result ranks.new losing.new }
         ensures pairs { is_ok result ≡ true → losing.new ≡ losing.old }
     {
         let mut lifting = Lifting::new(*self, colour, ranks);
         match lifting.settle() {
             Some(row) => Err(Fault::LosingLoop {
                 length: lifting.write_ring(row, losing),
-                colour: colour.number() as u8,
+                colour,
             }),
             None => Ok(()),
         }

@@ -6,6 +6,9 @@ use Rattle.table.specs.declared.row.Row.{Row}
 use Rattle.table.specs.declared.accepted.Accepted.{Accepted}
 use Rattle.table.specs.declared.fault.Fault.{Fault}
 use Rattle.table.specs.declared.fault.Fault.TheVariants.{LosingLoop}
+use Rattle.table.specs.declared.odd.OddColour.{OddColour}
+use Rattle.table.specs.declared.odd.OddColour.TheVariants.{One, Three, Five, Seven}
+use Rattle.table.specs.Odd.{odd}
 use Rattle.table.specs.Check.{faults}
 use Rattle.table.specs.Ranks.{rank_of}
 use Rattle.loops.specs.declared.pair.Pair.{Pair}
@@ -43,9 +46,15 @@ loses g x =
       odd = refl;
     }
 
+smallest_odd : (c : OddColour) → odd c ≤ 1 → c ≡ One
+smallest_odd One h = refl
+smallest_odd Three h = absurd (omega arith)
+smallest_odd Five h = absurd (omega arith)
+smallest_odd Seven h = absurd (omega arith)
+
 module _ {P : Type 0} (m : Meaning P) (rows : List (Row P)) (x : Rounds (graph_of m rows)) (none : faults m rows any_round true ≡ []) where
   named : (ranks ranks' : List ℕ) (losing losing' : List Pair) (r : Result Accepted Fault) → length ranks ≡ 20 → 5 ≤ length losing →
-      Ranked m rows ranks losing (form_faults m rows ranks losing) r ranks' losing' → (k : ℕ) × (r ≡ Err (LosingLoop k 1))
+      Ranked m rows ranks losing (form_faults m rows ranks losing) r ranks' losing' → (k : ℕ) × (r ≡ Err (LosingLoop k One))
   named ranks ranks' losing losing' r four enough h =
       let five : length rows ≡ 5 = x.size in
       let fits : fitting m rows ranks losing ≡ true =
@@ -53,11 +62,11 @@ module _ {P : Type 0} (m : Meaning P) (rows : List (Row P)) (x : Rounds (graph_o
       let h' : Ranked m rows ranks losing [] r ranks' losing' = subst (λ fs. Ranked m rows ranks losing fs r ranks' losing') (ap (λ b. faults m rows any_round b) fits ∙ none) h in
       elim h' [
         | inl f ↦ absurd (none_losing (graph_of m rows) 1 (rank_of ranks' (length rows) 1) (f.smallest 1 refl (lit≤ tt)).keeps loop (loses (graph_of m rows) x))
-        | inr q ↦ elim (cases_lt 1 q.colour) [
+        | inr q ↦ elim (cases_lt 1 (odd q.colour)) [
           | inl l ↦ absurd (q.least 1 l loop (loses (graph_of m rows) x))
           | inr l ↦
-              let odd = q.written.losing.odd in
-              let e : q.colour ≡ 1 = omega arith in
+              let one = q.written.losing.odd in
+              let e = smallest_odd q.colour l in
               (q.length, q.answer ∙ ap (λ c. Err (LosingLoop q.length c)) e)
         ]
       ]

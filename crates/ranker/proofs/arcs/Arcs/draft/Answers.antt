@@ -1,7 +1,9 @@
-use Rattle.std.proofs.Common.{ℕ, ◌+◌, ◌-◌, ◌*◌, List, refl, ap, ◌∙◌, subst, arith}
+use Rattle.std.proofs.Common.{ℕ, ◌+◌, ◌-◌, ◌*◌, ◌<◌, List, [], ◌∷◌, get_or, sym, refl, ◌∙◌, subst, arith}
 use Rattle.std.proofs.lemmas.Result.{err_from_is_err_and}
-use Rattle.table.specs.declared.fault.Fault.TheVariants.{LosingLoop}
+use Rattle.table.specs.declared.odd.OddColour.TheVariants.{One, Three, Five, Seven}
+use Rattle.table.specs.Odd.{odd}
 use Rattle.loops.specs.declared.pair.Pair.{Pair}
+use Rattle.loops.specs.Graph.{NoLoop}
 use Rattle.ranker.specs.Lifts.{rank_in, Smallest}
 use Rattle.ranker.specs.Loops.{Written}
 use Rattle.ranker.proofs.Stretches.{odd_at, all_drafted, stretch_end, stretch_length, drafted_more, none_smaller}
@@ -12,15 +14,16 @@ returns-in_err-draft_colour-clause-drafted c = λ g tells.
     let q = c.loop-q.q in
     let n = c.args.self.now.rows in
     let d = c.in_err-draft_colour.ensures.drafted g tells in
-    let W : List Pair → ℕ → Type 0 = λ was p. Written g p was d.0 c.draft_colour.new.losing in
-    let odd = odd_at q _ (omega arith) in
+    let colour = get_or (One ∷ Three ∷ Five ∷ Seven ∷ []) q One in
+    let W : List Pair → Type 0 = λ was. Written g (odd colour) was d.0 c.draft_colour.new.losing in
+    let N : ℕ → Type 0 = λ p. (r : ℕ) → r < p → NoLoop g r in
     let p = err_from_is_err_and c.from_residual.result c.from_residual.ensures.1 in
     rw (p.1, p.2) (
       d.0,
-      2 * q + 1,
-      d.1 ∙ ap (LosingLoop d.0) odd,
-      subst (λ (was : List Pair). W was (2 * q + 1)) c.loop-q.invariant.0 (subst (W c.loop-q.losing) odd d.2),
-      none_smaller g q n c.loop-q.draft (c.loop-q.invariant.1 g tells),
+      colour,
+      d.1,
+      subst W c.loop-q.invariant.0 d.2,
+      subst N (sym (odd_at q One (omega arith))) (none_smaller g q n c.loop-q.draft (c.loop-q.invariant.1 g tells)),
     )
 
 pub loop-q-preserved : goal.loop-q-preserved
