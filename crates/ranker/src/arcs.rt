@@ -1,6 +1,5 @@
 //! The arcs of a table, and the ranks that they come to.
 ghost use Rattle.std.specs.Prelude.{◌≡◌, ◌*◌, ◌^◌, ◌≤◌, true, false, length, is_ok};
-ghost use Rattle.table.specs.Odd.{odd};
 ghost use Rattle.loops.specs.Graph.{Graph};
 ghost use Rattle.ranker.specs.Arcs.{Tells, Told};
 ghost use Rattle.ranker.specs.Loops.{DraftedFor, Drafted};
