@@ -1,5 +1,6 @@
 //! The arcs of a table, and the ranks that they come to.
 ghost use Rattle.std.specs.Prelude.{◌≡◌, ◌*◌, ◌^◌, ◌≤◌, true, false, length, is_ok};
+ghost use Rattle.table.specs.declared.row.TheConstants.{MAX_ROWS};
 ghost use Rattle.loops.specs.Graph.{Graph};
 ghost use Rattle.ranker.specs.Arcs.{Tells, Told};
 ghost use Rattle.ranker.specs.Loops.{DraftedFor, Drafted};
@@ -20,7 +21,7 @@ pub(crate) struct Arcs<'a> {
     pub(crate) list: &'a [Passage],
     pub(crate) rows: usize,
     ghost few: { length list.now ≤ 2 ^ 24 },
-    ghost small: { rows ≤ 1024 },
+    ghost small: { rows ≤ MAX_ROWS },
     ghost told: { ∥ Told rows list.now ∥₁ },
 }
 

@@ -48,7 +48,7 @@ impl<'a> Lifting<'a> {
 
     /// What an arc asks of the rank of its row: the rank of the row that it leads to, and one more if it has the colour.
     fn due(&self, arc: Passage) -> u16
-        requires { (arc.to < length self.now.ranks.now) × (rank_in self.now.ranks.now arc.to < 1024) }
+        requires { (arc.to < length self.now.ranks.now) × (rank_in self.now.ranks.now arc.to < MAX_ROWS) }
         ensures { result ≡ due_by (odd self.now.colour) self.now.ranks.now arc }
     {
         let rank = self.ranks[arc.to as usize];
