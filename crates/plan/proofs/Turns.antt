@@ -1,6 +1,6 @@
 -- The turns of a loop over a list that looks for the first fault.
-use Rattle.std.proofs.Common.{◌≡◌, ℕ, ◌+◌, ◌<◌, ◌≤◌, List, [], ◌++◌, length, get_or, drop, Ok, Err, sum_by, sym, ap, ◌∙◌, add-one, arith}
-use Rattle.std.proofs.lemmas.List.{at_drop_more, at_drop_all}
+use Rattle.std.proofs.Common.{◌≡◌, ℕ, ◌+◌, ◌<◌, List, ◌++◌, length, get_or, drop, Ok, Err, sum_by, sym, ap, ◌∙◌, add-one, arith}
+use Rattle.std.proofs.lemmas.List.{at_drop_more}
 use Rattle.std.proofs.lemmas.List.Sums.{sum_by-drop_more}
 use Rattle.table.specs.declared.fault.Fault.{Fault}
 use Rattle.table.specs.Check.{numbered, verdict}
@@ -21,14 +21,7 @@ module _ {X : Type 0} (F : ℕ → X → List Fault) (xs : List X) where
       numbered F i (drop i xs) ≡ numbered F 0 xs → Err f ≡ verdict s (numbered F 0 xs)
   turn_err r s i x f b e v inv = rw (← inv, split F xs i x b e) (verdict_err r s (F i x) _ f v)
 
-  -- after the last turn
-  pub turn_end : (i : ℕ) → length xs ≤ i → numbered F i (drop i xs) ≡ numbered F 0 xs → numbered F 0 xs ≡ []
-  turn_end i b inv = sym inv ∙ at_drop_all (numbered F i) xs i b
-
 -- the turns of a loop that sums up
 module _ {X : Type 0} (f : X → ℕ) (xs : List X) where
   pub sum_more : (i n a : ℕ) (x : X) → i < length xs → x ≡ get_or xs i x → n ≡ f x → a + sum_by f (drop i xs) ≡ sum_by f xs → (a + n) + sum_by f (drop (i + 1) xs) ≡ sum_by f xs
   sum_more i n a x b e q inv = omega (arith, sum_by-drop_more f xs i x b, ap f e)
-
-  pub sum_end : (i a : ℕ) → length xs ≤ i → a + sum_by f (drop i xs) ≡ sum_by f xs → a ≡ sum_by f xs
-  sum_end i a b inv = omega (arith, at_drop_all (sum_by f) xs i b)

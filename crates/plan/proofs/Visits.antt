@@ -1,6 +1,6 @@
 -- Passages as a visitor is shown them.
-use Rattle.std.proofs.Common.{◌≡◌, ℕ, suc, ◌+◌, ◌<◌, ◌≤◌, Bool, true, List, [], ◌∷◌, ◌++◌, length, get_or, drop, Some, None, Ok, Option, sym, refl, ap, ◌∙◌, subst, add-one, arith}
-use Rattle.std.proofs.lemmas.List.{append_assoc, append-nil, at_drop_all}
+use Rattle.std.proofs.Common.{◌≡◌, ℕ, suc, ◌+◌, ◌<◌, ◌≤◌, Bool, true, List, [], ◌∷◌, ◌++◌, length, get_or, drop, Some, None, Ok, Option, sym, refl, ap, ◌∙◌, add-one, arith}
+use Rattle.std.proofs.lemmas.List.{append_assoc, append-nil}
 use Rattle.std.proofs.ByRecursion.{All-append, All-weaker}
 use Rattle.arena.specs.Meaning.{Meaning}
 use Rattle.arena.specs.declared.moves.Outcome.{Outcome}
@@ -14,7 +14,7 @@ use Rattle.table.proofs.Finds.{first_within}
 use Rattle.table.proofs.Bounds.{small_colour}
 use Rattle.plan.specs.declared.passage.Passage.{Passage}
 use Rattle.plan.specs.Passages.{passage_to, passage_at, passages_at, passages_in, UpTo, Next, Ready}
-use Rattle.plan.proofs.Turns.{split, turn_more, turn_end}
+use Rattle.plan.proofs.Turns.{split, turn_more}
 
 -- an outcome that leads to row t
 module _ {P : Type 0} (m : Meaning P) (rows : List (Row P)) (s latch i t c : ℕ) (o : Outcome P) (leads : row_after m rows latch o ≡ Some t) (colour : c ≡ colour_of latch o) where
@@ -59,11 +59,6 @@ module _ {V : Type 0} (seen : V → ℕ → List Passage → Type 0) (n s : ℕ)
   pub partly_ready : (is : V) (rest : List Passage) → Partly seen n s all rest was is → Ready seen n s was → Ready seen n s is
   partly_ready is rest x r =
       (r.0 ++ x.behind, (x.shown r.0 r.1.0 r.1.1, All-append (λ y. y.from ≤ s) r.0 x.behind r.1.1 x.rows))
-
-  pub partly_all : (is : V) → Partly seen n s all [] was is → (before : List Passage) → seen was n before → UpTo s before → seen is n (before ++ all)
-  partly_all is x before h up =
-      let F : List Passage → Type 0 = λ more. seen is n (before ++ more) in
-      subst F (sym (append-nil x.behind) ∙ x.whole) (x.shown before h up)
 
 -- what an outcome shows comes from its row
 to_upto : (s i c : ℕ) (o : Option ℕ) → UpTo s (passage_to s i c o)
@@ -130,9 +125,6 @@ module _ {P V : Type 0} (m : Meaning P) (rows : List (Row P)) (rule : V → ℕ 
     pub upto : UpTo s behind
     pub shown : seen is (length rows) behind
 
-  pub past_none : seen was (length rows) [] → Past was 0
-  past_none h = record { faults = refl; same = refl; behind = []; whole = refl; upto = tt; shown = h }
-
   -- the rule is still that of the beginning
   pub same_past : {R : Type 0} (x : R) (is : V) (s : ℕ) (r : Row P) → Past is s → verdict x (Wrong is s r) ≡ verdict x (Wrong was s r)
   same_past x is s r t = ap (λ (f : ℕ → ℕ → ℕ → ℕ → Bool). verdict x (move_faults m rows (f (length rows)) s r)) t.same
@@ -155,10 +147,3 @@ module _ {P V : Type 0} (m : Meaning P) (rows : List (Row P)) (rule : V → ℕ 
               (All-append (λ z. z.from ≤ s) t.behind (passages_at m rows s r) t.upto (row_upto m rows s r));
           shown = go t.behind t.shown t.upto;
         }
-
-  pub past_all : (is : V) (s : ℕ) → length rows ≤ s → Past is s → (numbered (Wrong was) 0 rows ≡ []) × seen is (length rows) (passages_in m rows)
-  past_all is s b t =
-      let e : t.behind ≡ passages_in m rows =
-      sym (append-nil t.behind) ∙ ap (λ (more : List Passage). t.behind ++ more) (sym (at_drop_all (numbered (passages_at m rows) s) rows s b)) ∙ t.whole in
-      let F : List Passage → Type 0 = λ all. seen is (length rows) all in
-      (turn_end (Wrong was) rows s b t.faults, subst F e t.shown)

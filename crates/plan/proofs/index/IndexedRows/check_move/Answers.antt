@@ -1,4 +1,4 @@
-use Rattle.std.proofs.Common.{◌≡◌, true, length, refl, ap, ◌∙◌, arith, rules}
+use Rattle.std.proofs.Common.{length, refl, ap, ◌∙◌}
 use Rattle.plan.specs.Passages.{passages_at}
 use Rattle.plan.proofs.Visits.{partly_ready, through_none, through_more}
 use Rattle.plan.proofs.index.IndexedRows.check_move.Goals as goal
@@ -17,13 +17,6 @@ check_outcome-requires g c =
       ready = partly_ready g.V.Visitor.seen (length table.rows.now) c.args.s
           (passages_at (g.A.Arena.meaning table.arena.now) table.rows.now c.args.s c.args.row.now) c.args.visitor.now c.loop-outcome.visitor _ c.loop-outcome.invariant.part c.requires.ready;
     }
-
-pub overflow_add-number : goal.overflow_add-number
-overflow_add-number g c =
-    let arena = c.args.self.now.arena.now in
-    let row = c.args.row.now in
-    let legal : (g.A.Arena.meaning arena).legal row.position row.choice ≡ true = search rules in
-    omega (arith, c.loop-outcome.invariant.count, ap length c.in-Some.ensures.steps, ((g.met.A.Arena.lawful arena).counts row.position row.choice legal).1)
 
 pub loop-outcome-preserved : goal.loop-outcome-preserved
 loop-outcome-preserved g c =

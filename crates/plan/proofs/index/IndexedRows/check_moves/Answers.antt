@@ -6,14 +6,9 @@ use Rattle.table.specs.Rows.{outcomes_of}
 use Rattle.table.specs.Check.{move_faults, outcomes_in}
 use Rattle.table.proofs.Bounds.{small_latch}
 use Rattle.table.proofs.Lists.{verdict_ok}
-use Rattle.plan.proofs.Turns.{turn_err, sum_more, sum_end}
-use Rattle.plan.proofs.Visits.{past_none, past_more, same_past, past_all}
+use Rattle.plan.proofs.Turns.{turn_err, sum_more}
+use Rattle.plan.proofs.Visits.{past_more, same_past}
 use Rattle.plan.proofs.index.IndexedRows.check_moves.Goals as goal
-
-pub loop-s-init : goal.loop-s-init
-loop-s-init g c =
-    let table = c.args.self.now in
-    (past_none (g.A.Arena.meaning table.arena.now) table.rows.now g.V.Visitor.rule g.V.Visitor.seen c.args.visitor.now c.requires.fresh, omega arith, omega arith)
 
 pub check_move-requires : goal.check_move-requires
 check_move-requires g c =
@@ -56,12 +51,3 @@ loop-s-preserved g c =
       sum_more (λ r. length (outcomes_of m r)) rows s n c.loop-s.outcomes r (omega arith) c.row-item.is count c.loop-s.invariant.1,
       omega arith,
     )
-
-pub returns : goal.returns
-returns g c =
-    let table = c.args.self.now in
-    let rows = table.rows.now in
-    let m = g.A.Arena.meaning table.arena.now in
-    let t = past_all m rows g.V.Visitor.rule g.V.Visitor.seen c.args.visitor.now c.loop-s.visitor c.loop-s.s (omega arith) c.loop-s.invariant.0 in
-    let all = sum_end (λ r. length (outcomes_of m r)) rows c.loop-s.s c.loop-s.outcomes (omega arith) c.loop-s.invariant.1 in
-    record { answers = rw (t.0, all); shown = λ _. t.1 }

@@ -1,7 +1,7 @@
 use Rattle.std.proofs.Common.{arith}
 use Rattle.std.proofs.lemmas.Result.{err_from_is_err_and}
 use Rattle.table.specs.Check.{place_faults}
-use Rattle.plan.proofs.Turns.{turn_more, turn_err, turn_end}
+use Rattle.plan.proofs.Turns.{turn_more, turn_err}
 use Rattle.plan.proofs.index.IndexedRows.check_places.Goals as goal
 
 pub returns-in_err-check_place : goal.returns-in_err-check_place
@@ -17,9 +17,3 @@ loop-s-preserved g c =
     let table = c.args.self.now in
     let F = place_faults (g.A.Arena.meaning table.arena.now) table.rows.now in
     turn_more F table.rows.now tt tt c.loop-s.s c.row-item.result (omega arith) c.row-item.is c.in_ok-check_place.ensures c.loop-s.invariant
-
-pub returns : goal.returns
-returns g c =
-    let table = c.args.self.now in
-    let F = place_faults (g.A.Arena.meaning table.arena.now) table.rows.now in
-    rw (turn_end F table.rows.now c.loop-s.s (omega arith) c.loop-s.invariant)

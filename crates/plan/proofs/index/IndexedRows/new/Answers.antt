@@ -1,5 +1,5 @@
 use Rattle.std.proofs.Common.{◌≡◌, ◌∷◌, [], length, get_or, set, replicate, ℕ, Some, None, refl, sym, ap, ◌∙◌, subst, append-nil, arith}
-use Rattle.std.proofs.lemmas.List.{length-append, length-set}
+use Rattle.std.proofs.lemmas.List.{length-set}
 use Rattle.plan.specs.Index.{Indexes}
 use Rattle.plan.proofs.Buckets.{index_none, index_more, one_more, one_less, taken_at}
 use Rattle.plan.proofs.index.IndexedRows.new.Goals as goal
@@ -38,12 +38,6 @@ loop-s-preserved g c =
       steps.0 ∙ inv.3,
       (row ∷ inv.4.0, one_more rows left left' inv.4.0 row steps.1.0 inv.4.1),
     )
-
-pub push-requires : goal.push-requires
-push-requires g c =
-    let less = ap length c.loop-s.invariant.4.1 ∙ length-append c.loop-s.s-iterator.iter.iter.rest.now c.loop-s.invariant.4.0 in
-    let one = one_less c.args.rows.now c.loop-s.s-iterator.iter.iter.rest.now c.next.new.self.iter.iter.rest.now c.loop-s.invariant.4.0 c.in-Some.row.now c.in-Some.ensures.steps.1.0 c.loop-s.invariant.4.1 in
-    (omega arith, omega (arith, less, one, c.in-Some.ensures.steps.1.1, c.loop-s.invariant.3))
 
 pub invariant_of-result : goal.invariant_of-result
 invariant_of-result g c =
