@@ -13,6 +13,7 @@ pub struct PerClock<T> {
 
 impl<T> PerClock<T> {
     /// These, and one for the tick clock.
+    #[inline]
     pub fn with_tick(self, tick: T) -> WithTick<T>
         ensures { result ≡ record { x = self.x; y = self.y; z = self.z; tick = tick } }
     {
@@ -27,6 +28,7 @@ impl<T> PerClock<T> {
 
 impl<T: Copy> PerClock<T> {
     /// What `f` makes of each.
+    #[inline]
     pub fn map<U, F: Fn(T) -> U>(self, f: F) -> PerClock<U>
         requires x { F.pre f self.x }
         requires y { F.pre f self.y }
@@ -43,6 +45,7 @@ impl<T: Copy> PerClock<T> {
     }
 
     /// Each with its neighbour of the same clock.
+    #[inline]
     pub fn zip<U: Copy>(self, other: PerClock<U>) -> PerClock<(T, U)>
         ensures { result ≡ record { x = (self.x, other.x); y = (self.y, other.y); z = (self.z, other.z) } }
     {
@@ -56,6 +59,7 @@ impl<T: Copy> PerClock<T> {
 
 impl PerClock<bool> {
     /// Whether it holds of all clocks.
+    #[inline]
     pub fn all(self) -> bool
         ensures { result ≡ (self.x && self.y && self.z) }
     {

@@ -14,6 +14,7 @@ pub struct WithTick<T> {
 
 impl<T: Copy> WithTick<T> {
     /// Those of the game's clocks.
+    #[inline]
     pub fn without_tick(self) -> PerClock<T>
         ensures { result ≡ record { x = self.x; y = self.y; z = self.z } }
     {
@@ -25,6 +26,7 @@ impl<T: Copy> WithTick<T> {
     }
 
     /// What `f` makes of each.
+    #[inline]
     pub fn map<U, F: Fn(T) -> U>(self, f: F) -> WithTick<U>
         requires x { F.pre f self.x }
         requires y { F.pre f self.y }
@@ -40,6 +42,7 @@ impl<T: Copy> WithTick<T> {
     }
 
     /// Each with its neighbour of the same clock.
+    #[inline]
     pub fn zip<U: Copy>(self, other: WithTick<U>) -> WithTick<(T, U)>
         ensures { result ≡ record { x = (self.x, other.x); y = (self.y, other.y); z = (self.z, other.z); tick = (self.tick, other.tick) } }
     {
@@ -51,6 +54,7 @@ impl<T: Copy> WithTick<T> {
 
 impl WithTick<bool> {
     /// Whether it holds of some clock.
+    #[inline]
     pub fn any(self) -> bool
         ensures { result ≡ (self.x || self.y || self.z || self.tick) }
     {
@@ -58,6 +62,7 @@ impl WithTick<bool> {
     }
 
     /// Whether it holds of all clocks.
+    #[inline]
     pub fn all(self) -> bool
         ensures { result ≡ (self.x && self.y && self.z && self.tick) }
     {
