@@ -1,9 +1,11 @@
 -- What is read is sound but for the start, so that a text without a fault is refused exactly when it has no start.
-use Rattle.std.proofs.Common.{◌≡◌, ℕ, zero, suc, ◌+◌, ◌*◌, ◌<◌, ◌≤◌, Bool, true, false, cond, ◌&&◌, ◌||◌, eqb, ltb, leb, List, [], ◌∷◌, ◌++◌, map, length, get_or, drop, is_some, IfSome, Some, None, Ok, Err, Option, Result, unwrap_or, sym, refl, ap, ◌∙◌, subst, inl, inr, add-zero, arith, lit≤}
-use Rattle.std.specs.List.{AllByRecursion, list_all}
+use Rattle.std.proofs.Common.{◌≡◌, ℕ, zero, suc, ◌+◌, ◌*◌, ◌<◌, ◌≤◌, true, false, cond, ◌&&◌, ◌||◌, eqb, ltb, leb, List, [], ◌∷◌, ◌++◌, map, length, get_or, drop, is_some, IfSome, Some, None, Ok, Err, Option, Result, unwrap_or, sym, refl, ap, ◌∙◌, subst, inl, inr, add-zero, arith, lit≤}
+use Rattle.std.specs.List.{AllByRecursion}
 use Rattle.std.proofs.ByRecursion.{All-push, All-get_or, All-append, All-map, All-weaker}
 use Rattle.std.proofs.lemmas.Slice.Eq.{bytes_eq-Decides}
 use Rattle.std.proofs.lemmas.List.{length_push, length-map, length-append, length-drop, get_or-drop, get_or_past}
+use Rattle.std.proofs.lemmas.List.Elements.{All-from_recursion}
+use Rattle.std.proofs.lemmas.List.Sums.{list_all-from_AllPass}
 use Rattle.std.proofs.lemmas.Bool.{cond-false, cond_both, eqb-true, ne_eqb, and_parts, and_from, or_left, or_right, not_from_false, cases_lt, lt-ltb, le-ltb, le-leb}
 use Rattle.std.proofs.lemmas.Bool.Decides.{nat_tests}
 use Rattle.regions.specs.Code.{within, is_own}
@@ -277,10 +279,6 @@ nothing_in_order = record { few_clocks = lit≤ tt; ceilings = tt; few_locations
 
 -- The game
 
-all_every : {X : Type 0} (p : X → Bool) (xs : List X) → AllByRecursion (λ x. p x ≡ true) xs → list_all p xs ≡ true
-all_every p [] h = refl
-all_every p (x ∷ xs) h = and_from _ _ h.0 (all_every p xs h.1)
-
 ceiling_low : (cs : List ℕ) (i : ℕ) → AllByRecursion InRange cs → leb (get_or cs i 0) max_ceiling ≡ true
 ceiling_low [] i r = refl
 ceiling_low (c ∷ cs) zero r = le-leb c max_ceiling r.0.1
@@ -298,8 +296,8 @@ well_made_lem s o =
     and_from _ _ (and_from _ _ (low 0) (and_from _ _ (low 1) (and_from _ _ (low 2) refl)))
     (and_from _ _ (and_from _ _ (turn 0) (turn 1))
     (and_from _ _ (le-leb _ _ o.few_locations)
-    (and_from _ _ (all_every _ _ o.locations)
-    (and_from _ _ (le-leb _ _ o.few_edges) (all_every _ _ o.edges)))))
+    (and_from _ _ (list_all-from_AllPass _ _ (All-from_recursion _ _ o.locations))
+    (and_from _ _ (le-leb _ _ o.few_edges) (list_all-from_AllPass _ _ (All-from_recursion _ _ o.edges))))))
 
 fresh_within : (c : ℕ) → within (fresh c) ≡ true
 fresh_within c = grind (arith, nat_tests)

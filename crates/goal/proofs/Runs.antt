@@ -1,8 +1,9 @@
 -- Runs over a goal are the runs below, with the automaton's states beside them.
-use Rattle.std.proofs.Common.{◌≡◌, ℕ, zero, suc, true, List, [], ◌∷◌, map, Some, None, Option, sym, refl, ap, ◌∙◌, subst, ap₂, ⊎_elim}
+use Rattle.std.proofs.Common.{◌≡◌, ℕ, true, List, [], ◌∷◌, map, Some, None, Option, sym, refl, ap, ◌∙◌, subst, ap₂, ⊎_elim}
 use Rattle.std.specs.List.{slice_get, AllByRecursion}
 use Rattle.std.specs.Option.{option_map, option_and_then}
-use Rattle.std.proofs.lemmas.Option.{none-some}
+use Rattle.std.proofs.ByRecursion.{All-get_or}
+use Rattle.std.proofs.lemmas.Option.{none-some, get_or_from_slice_get, option_and_then_some, slice_get_within}
 use Rattle.std.proofs.lemmas.Bool.{cond-true, cases_Bool}
 use Rattle.arena.specs.Meaning.{Meaning, Lawful}
 use Rattle.arena.specs.declared.moves.Outcome.{Outcome}
@@ -18,15 +19,6 @@ mapped_some : {X Y : Type 0} (f : X → Y) (o : Option X) (y : Y) → option_map
 mapped_some f None y e = absurd (none-some _ e)
 mapped_some f (Some x) y e = (x, refl, cc)
 
-taken_some : {X Y : Type 0} (f : X → Option Y) (o : Option X) (y : Y) → option_and_then f o ≡ Some y → (x : X) × (o ≡ Some x) × (f x ≡ Some y)
-taken_some f None y e = absurd (none-some _ e)
-taken_some f (Some x) y e = (x, refl, e)
-
-all_nth : {X : Type 0} (F : X → Type 0) (xs : List X) (i : ℕ) (x : X) → AllByRecursion F xs → slice_get xs i ≡ Some x → F x
-all_nth F [] i x h e = absurd (none-some _ e)
-all_nth F (y ∷ ys) zero x h e = let s : y ≡ x = cc in subst F s h.0
-all_nth F (y ∷ ys) (suc i) x h e = all_nth F ys i x h.1 e
-
 map_where : {X Y Z : Type 0} (F : X → Type 0) (f : X → Z) (h : Y → Z) (k : X → Y) → ((x : X) → F x → f x ≡ h (k x)) → (xs : List X) → AllByRecursion F xs → map f xs ≡ map h (map k xs)
 map_where F f h k same [] a = refl
 map_where F f h k same (x ∷ xs) a = ap₂ ◌∷◌ (same x a.0) (map_where F f h k same xs a.1)
@@ -38,15 +30,16 @@ module _ {P : Type 0} (m : Meaning P) (ok : Lawful m) where
 
   own_outcome : (p : P) (k : Pick) (o : Outcome P) → slice_get (m.outcomes p k.choice) k.number ≡ Some o → Own o.position
   own_outcome p k o e =
-      ⊎_elim (λ h. all_nth (λ x. Own x.position) (m.outcomes p k.choice) k.number o (ok.leads p k.choice h) e)
+      let os = m.outcomes p k.choice in
+      ⊎_elim (λ h. subst (λ x. Own x.position) (get_or_from_slice_get os k.number o o e) (All-get_or (λ x. Own x.position) os k.number o (slice_get_within os k.number o e) (ok.leads p k.choice h)))
       (λ h. absurd (none-some _ (sym (ap (λ os. slice_get os k.number) (ok.idle p k.choice h)) ∙ e))) (cases_Bool (m.legal p k.choice))
 
   own_from : (ks : List Pick) (p : P) (os : List (Outcome P)) → run_from m p ks ≡ Some os → AllByRecursion Own (map (λ o. o.position) os)
   own_from [] p os e = let s : [] ≡ os = cc in subst (λ xs. AllByRecursion Own (map (λ o. o.position) xs)) s tt
   own_from (k ∷ ks) p os e =
-      let first = taken_some (λ o. option_map (◌∷◌ o) (run_from m o.position ks)) (slice_get (m.outcomes p k.choice) k.number) os e in
-      let rest = mapped_some (◌∷◌ first.0) (run_from m first.0.position ks) os first.2 in
-      subst (λ xs. AllByRecursion Own (map (λ o. o.position) xs)) rest.2 (own_outcome p k first.0 first.1, own_from ks first.0.position rest.0 rest.1)
+      option_and_then_some (λ o. option_map (◌∷◌ o) (run_from m o.position ks)) (slice_get (m.outcomes p k.choice) k.number) os e (λ o there more.
+      let rest = mapped_some (◌∷◌ o) (run_from m o.position ks) os more in
+      subst (λ xs. AllByRecursion Own (map (λ o. o.position) xs)) rest.2 (own_outcome p k o there, own_from ks o.position rest.0 rest.1))
 
   own_along : (ks : List Pick) (os : List (Outcome P)) → run m ks ≡ Some os → AllByRecursion Own (along m os)
   own_along ks os e = (ok.starts, own_from ks m.start os e)

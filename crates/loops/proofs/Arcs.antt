@@ -2,6 +2,7 @@
 use Rattle.std.proofs.Common.{◌≡◌, ℕ, zero, suc, ◌<◌, ◌≤◌, Bool, true, not, ltb, List, [], ◌∷◌, length, Some, None, Option, refl, ap, arith}
 use Rattle.std.specs.List.{slice_get}
 use Rattle.std.proofs.lemmas.Bool.{not-false, ltb-false}
+use Rattle.std.proofs.lemmas.Option.{slice_get_within}
 use Rattle.arena.specs.Meaning.{Meaning}
 use Rattle.arena.specs.declared.moves.Outcome.{Outcome}
 use Rattle.table.specs.declared.row.Row.{Row}
@@ -9,7 +10,7 @@ use Rattle.table.specs.declared.fault.Fault.TheVariants.{TooManyRows, IllegalMov
 use Rattle.table.specs.Colours.{colour_of}
 use Rattle.table.specs.Rows.{row_after, outcomes_of}
 use Rattle.table.specs.Check.{when, numbered, place_faults, start_faults, target_faults, outcome_faults, move_faults, faults}
-use Rattle.table.proofs.Lists.{cons_nil, append_nil, when_nil, numbered_nil, numbered_all, nth_within}
+use Rattle.table.proofs.Lists.{cons_nil, append_nil, when_nil, numbered_nil, numbered_all}
 use Rattle.table.proofs.Bounds.{small_colour, small_latch}
 use Rattle.table.proofs.Finds.{first_within}
 use Rattle.loops.specs.declared.pair.Pair.{Pair}
@@ -108,7 +109,7 @@ module _ {P : Type 0} (m : Meaning P) (rows : List (Row P)) (rule : ℕ → ℕ 
       unfolding arc_of_lem
       no_outcome s r e i o h =
           let a = arc_of_lem s i r o e h in
-          let k = kept s i (nth_within rows s r e) (omega (arith, count_at s r e, nth_within (outcomes_of m r) i o h)) in
+          let k = kept s i (slice_get_within rows s r e) (omega (arith, count_at s r e, slice_get_within (outcomes_of m r) i o h)) in
           let q : rule' (colour_of r.latch o) s a.target ≡ true = rw (arc_to s i a, arc_colour s i a) at k in
           rw (a.leads, q)
 

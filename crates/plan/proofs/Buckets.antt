@@ -3,12 +3,11 @@ use Rattle.std.proofs.Common.{◌≡◌, ℕ, zero, suc, ◌+◌, ◌-◌, ◌<�
 use Rattle.std.specs.List.{slice_get, position_from, push}
 use Rattle.std.specs.Option.{option_map}
 use Rattle.std.proofs.lemmas.List.{get_or-replicate, get_or-set_same, get_or-set_other, at_drop_more, at_drop_all, append_assoc, length_push}
-use Rattle.std.proofs.lemmas.Option.{get_or_from_slice_get, slice_get_cases}
+use Rattle.std.proofs.lemmas.Option.{get_or_from_slice_get, slice_get_cases, none-some, same_Some, slice_get_within}
 use Rattle.std.proofs.lemmas.Bool.{and_parts, eqb-true, eq-eqb, ne_eqb, cases_eq, cases_Bool, both_ways}
 use Rattle.arena.specs.Meaning.{Meaning, Lawful}
 use Rattle.table.specs.declared.row.Row.{Row}
 use Rattle.table.specs.Rows.{is_for, first_row}
-use Rattle.table.proofs.Lists.{none_some, some_same, nth_within}
 use Rattle.plan.specs.Index.{bucket_of, bucket_at, next_in, Indexes}
 
 -- a search from row s on, one row at a time
@@ -18,7 +17,7 @@ module _ {P : Type 0} (test : Row P → Bool) (rows : List (Row P)) where
 
   from_step : (s : ℕ) (r : Row P) → slice_get rows s ≡ Some r → from s ≡ cond (test r) (Some s) (from (suc s))
   from_step s r e =
-      at_drop_more (position_from test s) rows s r (nth_within rows s r e)
+      at_drop_more (position_from test s) rows s r (slice_get_within rows s r e)
       ∙ ap (λ q. cond (test q) (Some s) (position_from test (s + 1) (drop (s + 1) rows))) (get_or_from_slice_get rows s r r e)
       ∙ rw add-one
 
@@ -52,7 +51,7 @@ module _ {P : Type 0} (m : Meaning P) (rows : List (Row P)) where
   pub index_none : (links : List (Option ℕ)) → Indexes m rows (length rows) (replicate 1021 None) links
   index_none links = (
     λ b h. get_or-replicate 1021 b None None h ∙ sym (from_end (in_it b) rows (length rows) (omega arith)),
-    λ k r a e. absurd (omega (arith, nth_within rows k r e)),
+    λ k r a e. absurd (omega (arith, slice_get_within rows k r e)),
   )
 
   -- with row s entered before those after it
@@ -80,8 +79,8 @@ module _ {P : Type 0} (m : Meaning P) (rows : List (Row P)) where
       nexts k t a h =
           ⊎_elim
           (λ (i : k ≡ s).
-          let o : r ≡ t = some_same (sym e ∙ (rw (← i) h)) in
-          rw (i, ← o, ← q) (get_or-set_same links s _ None (omega (arith, nth_within rows s r e)) ∙ x.0 b inside))
+          let o : r ≡ t = same_Some _ _ (sym e ∙ (rw (← i) h)) in
+          rw (i, ← o, ← q) (get_or-set_same links s _ None (omega (arith, slice_get_within rows s r e)) ∙ x.0 b inside))
           (λ (i : k ≡ s → ⊥). get_or-set_other links s k _ None i ∙ x.1 k t (omega arith) h)
           (cases_eq k s)
 
@@ -139,11 +138,11 @@ module _ {P : Type 0} (m : Meaning P) (rows : List (Row P)) where
     turn s r b e i = from_step (in_it (bucket_of m p l)) rows s r e ∙ ap (λ b. cond b (Some s) (next_in m rows (bucket_of m p l) (suc s))) i
 
     found : (n s t : ℕ) → s + n ≡ length rows → next_in m rows (bucket_of m p l) s ≡ Some t → Found s t
-    found zero s t e h = absurd (none_some (sym (from_end (in_it (bucket_of m p l)) rows s (omega arith)) ∙ h))
+    found zero s t e h = absurd (none-some _ (sym (from_end (in_it (bucket_of m p l)) rows s (omega arith)) ∙ h))
     found (suc n) s t e h =
         let x = row_at s n e in
         ⊎_elim
-        (λ (i : in_it (bucket_of m p l) x.0 ≡ true). here s t x.0 x.1 i (some_same (sym (turn s x.0 true x.1 i) ∙ h)))
+        (λ (i : in_it (bucket_of m p l) x.0 ≡ true). here s t x.0 x.1 i (same_Some _ _ (sym (turn s x.0 true x.1 i) ∙ h)))
         (λ (i : in_it (bucket_of m p l) x.0 ≡ false). later s t x.0 x.1 i (found n (suc s) t (omega arith) (sym (turn s x.0 false x.1 i) ∙ h)))
         (cases_Bool (in_it (bucket_of m p l) x.0))
 
@@ -152,7 +151,7 @@ module _ {P : Type 0} (m : Meaning P) (rows : List (Row P)) where
     nothing (suc n) s e h =
         let x = row_at s n e in
         ⊎_elim
-        (λ (i : in_it (bucket_of m p l) x.0 ≡ true). absurd (none_some (sym h ∙ turn s x.0 true x.1 i)))
+        (λ (i : in_it (bucket_of m p l) x.0 ≡ true). absurd (none-some _ (sym h ∙ turn s x.0 true x.1 i)))
         (λ (i : in_it (bucket_of m p l) x.0 ≡ false). pass s x.0 x.1 i ∙ nothing n (suc s) (omega arith) (sym (turn s x.0 false x.1 i) ∙ h))
         (cases_Bool (in_it (bucket_of m p l) x.0))
 
@@ -161,12 +160,12 @@ module _ {P : Type 0} (m : Meaning P) (rows : List (Row P)) where
       at_hand = found (length rows - z.at) z.at t (omega (arith, z.inside)) (sym z.next_is)
 
       pub look_within : t < length rows
-      look_within = nth_within rows t at_hand.row at_hand.there
+      look_within = slice_get_within rows t at_hand.row at_hand.there
 
       module _ (r : Row P) (e : slice_get rows t ≡ Some r) where
         now : (b : Bool) → is_for m p l r ≡ b → first_row m rows p l ≡ cond b (Some t) (sought (suc t))
         now b h =
-            let i : at_hand.row ≡ r = some_same (sym at_hand.there ∙ e) in
+            let i : at_hand.row ≡ r = same_Some _ _ (sym at_hand.there ∙ e) in
             z.all ∙ at_hand.all ∙ ap (λ b. cond b (Some t) (sought (suc t))) (ap (is_for m p l) i ∙ h)
 
         pub look_found : is_for m p l r ≡ true → first_row m rows p l ≡ Some t
@@ -175,7 +174,7 @@ module _ {P : Type 0} (m : Meaning P) (rows : List (Row P)) where
         module _ (heads links : List (Option ℕ)) (x : Indexes m rows 0 heads links) where
           next_of : get_or links t None ≡ next_in m rows (bucket_of m p l) (suc t)
           next_of =
-              let i : at_hand.row ≡ r = some_same (sym at_hand.there ∙ e) in
+              let i : at_hand.row ≡ r = same_Some _ _ (sym at_hand.there ∙ e) in
               x.1 t r (omega arith) e ∙ ap (λ b. next_in m rows b (suc t)) (eqb-true _ _ (ap (in_it (bucket_of m p l)) (sym i) ∙ at_hand.inside))
 
           -- from a row that is not the one to the next of the bucket

@@ -6,10 +6,10 @@ use Rattle.std.proofs.ByRecursion.{All-push, All-weaker, all-has, has_push, has_
 use Rattle.std.proofs.lemmas.List.Sums.{sum_by-set, count_by-le-length}
 use Rattle.std.specs.Option.{option_eq}
 use Rattle.std.proofs.lemmas.Bool.{cases_eq, cases_lt, eq-eqb, ne_eqb, eqb-true, not-false, true≢false}
+use Rattle.std.proofs.lemmas.Option.{none-some, same_Some}
 use Rattle.plan.specs.declared.passage.Passage.{Passage}
 use Rattle.plan.specs.Passages.{UpTo, Next}
 use Rattle.ranker.specs.Arcs.{arc_at}
-use Rattle.table.proofs.Lists.{none_some, some_same}
 use Rattle.ranker.specs.Notes.{key_of, Proper, Stands, is_of, Noted}
 
 -- a stamp of its own row, and any other
@@ -22,8 +22,8 @@ of_other s (Some v) new = ne_eqb v s (λ e. new (ap Some e))
 
 -- stamps that `!=` tells apart, and those that it does not
 pub differs : (a : Option ℕ) (v : ℕ) → true ≡ not (option_eq eqb a (Some v)) → a ≡ Some v → ⊥
-differs None v ne e = none_some e
-differs (Some u) v ne e = true≢false (ne ∙ ap not (eq-eqb u v (some_same e)))
+differs None v ne e = none-some _ e
+differs (Some u) v ne e = true≢false (ne ∙ ap not (eq-eqb u v (same_Some _ _ e)))
 
 pub agrees : (a : Option ℕ) (v : ℕ) → false ≡ not (option_eq eqb a (Some v)) → a ≡ Some v
 agrees None v e = absurd (true≢false (sym e))
@@ -41,7 +41,7 @@ noted_none n stamps few e =
       proper = tt;
       true = λ k b. absurd (omega arith);
       whole = λ x h. absurd (omega (arith, h.1));
-      stamped = λ key v q. absurd (none_some (sym (empty key) ∙ q));
+      stamped = λ key v q. absurd (none-some _ (sym (empty key) ∙ q));
       spare = λ s _. omega arith;
     }
 
@@ -146,7 +146,7 @@ module _ (n : ℕ) (before : List Passage) (arcs : List Passage) (stamps : List 
           stamped = λ key v q.
               ⊎_elim
               (λ (e : key ≡ key_of x.to x.colour).
-              let v-is : v ≡ x.from = some_same (sym q ∙ ap (λ (j : ℕ). get_or stamps' j None) e ∙ get_or-set_same stamps (key_of x.to x.colour) (Some x.from) None key_below) in
+              let v-is : v ≡ x.from = same_Some _ _ (sym q ∙ ap (λ (j : ℕ). get_or stamps' j None) e ∙ get_or-set_same stamps (key_of x.to x.colour) (Some x.from) None key_below) in
               (length arcs, record { there = omega (arith, length_push arcs x); row = omega (arith, ap (λ (a : Passage). a.from) added); keyed = omega (arith, ap (λ (a : Passage). a.to) added, ap (λ (a : Passage). a.colour) added) }))
               (λ (e : key ≡ key_of x.to x.colour → ⊥).
               let w = was.stamped key v (sym (get_or-set_other stamps (key_of x.to x.colour) key (Some x.from) None e) ∙ q) in

@@ -1,16 +1,14 @@
 -- The arcs noted from all passages of a well-formed table tell of its graph.
-use Rattle.std.proofs.Common.{◌≡◌, ℕ, zero, suc, ◌+◌, ◌-◌, ◌<◌, ◌≤◌, ◌⊎◌, List, [], ◌∷◌, ◌++◌, length, get_or, Some, None, Option, sym, refl, ◌∙◌, subst, inl, inr, ⊎_elim, arith}
+use Rattle.std.proofs.Common.{◌≡◌, ℕ, zero, suc, ◌+◌, ◌<◌, List, [], ◌∷◌, length, get_or, Some, None, Option, refl, subst, ⊎_elim, arith}
 use Rattle.std.specs.List.{slice_get, ContainsAt}
-use Rattle.std.proofs.lemmas.List.{length-append, get_or_append_left, get_or-append_right}
-use Rattle.std.proofs.ByRecursion.{has_append_left, has_append_right}
-use Rattle.std.proofs.lemmas.Bool.{cases_lt}
+use Rattle.std.proofs.ByRecursion.{has_append_left, has_append_right, has_append_cases}
+use Rattle.std.proofs.lemmas.Option.{none-some, same_Some, slice_get_within}
 use Rattle.arena.specs.Meaning.{Meaning}
 use Rattle.arena.specs.declared.moves.Outcome.{Outcome}
 use Rattle.table.specs.declared.row.Row.{Row}
 use Rattle.table.specs.Colours.{colour_of}
 use Rattle.table.specs.Rows.{row_after, outcomes_of}
 use Rattle.table.specs.Check.{numbered}
-use Rattle.table.proofs.Lists.{none_some, some_same, nth_within}
 use Rattle.plan.specs.declared.passage.Passage.{Passage}
 use Rattle.plan.specs.Passages.{passage_to, passage_at, passages_at, passages_in}
 use Rattle.loops.specs.Table.{graph_of, any_round, WellFormed}
@@ -18,14 +16,6 @@ use Rattle.loops.proofs.Arcs.{arc, arc_to, arc_colour, count_at, closed}
 use Rattle.ranker.specs.Arcs.{arc_at, Tells}
 use Rattle.ranker.specs.Notes.{Noted}
 use Rattle.ranker.proofs.Orders.{has_first}
-
--- what is in two lists one after the other
-has_append_cases : {X : Type 0} (xs ys : List X) (x : X) → ContainsAt (xs ++ ys) x → ContainsAt xs x ⊎ ContainsAt ys x
-has_append_cases xs ys x h =
-    ⊎_elim
-    (λ (b : h.0 < length xs). inl (h.0, b, λ d. sym (get_or_append_left xs ys d h.0 b) ∙ h.2 d))
-    (λ (b : length xs ≤ h.0). inr (h.0 - length xs, omega (arith, h.1, length-append xs ys), λ d. sym (get_or-append_right xs ys (length xs) h.0 d refl b) ∙ h.2 d))
-    (cases_lt h.0 (length xs))
 
 module _ {X Y : Type 0} (f : ℕ → X → List Y) where
   -- what is in a numbered list comes from one of its numbers, and back
@@ -40,10 +30,10 @@ module _ {X Y : Type 0} (f : ℕ → X → List Y) where
       (has_append_cases (f n x) (numbered f (suc n) xs) y h)
 
   has_numbered : (n : ℕ) (xs : List X) (y : Y) (k j : ℕ) (x : X) → n + k ≡ j → slice_get xs k ≡ Some x → ContainsAt (f j x) y → ContainsAt (numbered f n xs) y
-  has_numbered n [] y k j x e q h = absurd (none_some q)
+  has_numbered n [] y k j x e q h = absurd (none-some _ q)
   has_numbered n (z ∷ xs) y zero j x e q h =
       has_append_left (f n z) (numbered f (suc n) xs) y
-      (let i : n ≡ j = omega arith in let F : ℕ → X → Type 0 = λ a b. ContainsAt (f a b) y in rw (i, some_same q) h)
+      (let i : n ≡ j = omega arith in let F : ℕ → X → Type 0 = λ a b. ContainsAt (f a b) y in rw (i, same_Some _ _ q) h)
   has_numbered n (z ∷ xs) y (suc k) j x e q h =
       has_append_right (f n z) (numbered f (suc n) xs) y (has_numbered (suc n) xs y k j x (omega arith) q h)
 
@@ -67,8 +57,8 @@ module _ {P : Type 0} (m : Meaning P) (rows : List (Row P)) where
       Told (record { from = s; outcome = i; colour = colour_of r.latch o; to = t })
   told_of s i t r o here gives leads =
       record {
-        from = nth_within rows s r here;
-        outcome = rw (count_at m rows any_round s r here) (nth_within (outcomes_of m r) i o gives);
+        from = slice_get_within rows s r here;
+        outcome = rw (count_at m rows any_round s r here) (slice_get_within (outcomes_of m r) i o gives);
         colour = rw (here, gives);
         to = rw (here, gives, leads);
       }

@@ -2,6 +2,7 @@
 use Rattle.std.proofs.Common.{◌≡◌, ℕ, zero, suc, ◌+◌, ◌%◌, ◌<◌, ◌≤◌, max, Bool, true, false, ◌&&◌, eqb, List, length, Some, sym, refl, ap, ◌∙◌, subst, ⊎_elim, arith}
 use Rattle.std.specs.List.{slice_get}
 use Rattle.std.proofs.lemmas.Bool.{cases_eq, cases_lt, cases_Bool, both_ways, and_parts, eqb-true, eq-eqb, ne_eqb, cond-true, cond-false}
+use Rattle.std.proofs.lemmas.Option.{same_Some}
 use Rattle.arena.specs.Meaning.{Meaning, Lawful}
 use Rattle.arena.specs.declared.moves.Side.{Side}
 use Rattle.arena.specs.declared.moves.Side.TheVariants.{Us, Them}
@@ -11,7 +12,6 @@ use Rattle.table.specs.Colours.{side_colour, colour_of, latch_after}
 use Rattle.table.specs.Rows.{first_row, outcomes_of}
 use Rattle.table.specs.Ranks.{rank_of}
 use Rattle.table.specs.Accepts.{Accepts}
-use Rattle.table.proofs.Lists.{some_same}
 use Rattle.table.proofs.Finds.{first_is, first_within, stands_first}
 use Rattle.runs.specs.Runs.{Endless, ticks, colour_at, priority_at, NoTick, Begins, is_us, times}
 use Rattle.runs.proofs.Counts.{below, below_most, times_mono}
@@ -105,7 +105,7 @@ module _ {P : Type 0} (m : Meaning P) (ok : Lawful m) (rows : List (Row P)) (ran
         let n = leads_on m ok rows ranks a (run.position k) (run.latch k) (run.row k) (run.number k) f.row (run.outcome k) (run.here k) f.there (run.picked k f.row f.there) in
         let e : first_row m rows (run.position (suc k)) (run.latch (suc k)) ≡ Some n.to = rw ((run.then k).0, (run.then k).1) n.there in
         let F : ℕ → Type 0 = λ t. Falls (rank_of ranks (length rows) p) p (colour_at run k) (run.row k) t in
-        subst F (some_same (sym e ∙ run.here (suc k))) (n.falls p od b)
+        subst F (same_Some _ _ (sym e ∙ run.here (suc k))) (n.falls p od b)
 
     fades : (p : ℕ) → p % 2 ≡ 1 → p ≤ 7 → (n k : ℕ) → ((j : ℕ) → k ≤ j → colour_at run j ≤ p) →
         times (λ j. eqb p (colour_at run j)) k n ≤ below (rank_of ranks (length rows) p) (length rows) (run.row k)
@@ -210,8 +210,8 @@ module _ {P : Type 0} (m : Meaning P) (ok : Lawful m) (rows : List (Row P)) (ran
       outcome = λ k. (outcome_at k (spot k)).0;
       at_first = (refl, refl);
       here = λ k. (spot k).here;
-      picked = λ k r e. let q : (spot k).row ≡ r = some_same (sym (spot k).there ∙ e) in rw (← q) (outcome_at k (spot k)).1;
+      picked = λ k r e. let q : (spot k).row ≡ r = same_Some _ _ (sym (spot k).there ∙ e) in rw (← q) (outcome_at k (spot k)).1;
       then = λ k. (refl, refl);
     },
-    λ k r e. let q : (spot k).row ≡ r = some_same (sym (spot k).there ∙ e) in ap (λ (x : Row P). pick k (length (outcomes_of m x))) q,
+    λ k r e. let q : (spot k).row ≡ r = same_Some _ _ (sym (spot k).there ∙ e) in ap (λ (x : Row P). pick k (length (outcomes_of m x))) q,
   )

@@ -2,6 +2,7 @@
 use Rattle.std.proofs.Common.{◌≡◌, ℕ, zero, suc, ◌+◌, ◌%◌, ◌<◌, ◌≤◌, Bool, true, false, cond, leb, ◌⊎◌, List, [], ◌∷◌, length, Some, None, Ok, Err, Option, Result, sym, refl, ap, ◌∙◌, inl, inr, ⊎_elim, arith}
 use Rattle.std.specs.List.{slice_get}
 use Rattle.std.proofs.lemmas.Bool.{cases_lt, le-ltb, lt-leb, leb-true}
+use Rattle.std.proofs.lemmas.Option.{none-some}
 use Rattle.arena.specs.Meaning.{Meaning, Lawful}
 use Rattle.arena.specs.declared.moves.Outcome.{Outcome}
 use Rattle.table.specs.declared.row.Row.{Row}
@@ -12,7 +13,6 @@ use Rattle.table.specs.Colours.{colour_of, latch_after}
 use Rattle.table.specs.Rows.{first_row, outcomes_of}
 use Rattle.table.specs.Ranks.{rank_of}
 use Rattle.table.specs.Accepts.{Accepts}
-use Rattle.table.proofs.Lists.{none_some}
 use Rattle.table.proofs.Finds.{first_is, first_within, stands_first}
 use Rattle.runs.specs.Walk.{tally_after, moved, chosen, taken, moved_by, Call, step, tally, History, begun, noted, called, after}
 use Rattle.runs.specs.Counted.{last_position, last_latch, colours, counted, tally_of}
@@ -117,7 +117,7 @@ module _ {P : Type 0} (m : Meaning P) (ok : Lawful m) (rows : List (Row P)) (ran
       inr (
         sym (err_same e),
         ⊎_elim
-            (λ (b : i < length (outcomes_of m r)). absurd (none_some (sym ex ∙ (nth_there (outcomes_of m r) i b).1)))
+            (λ (b : i < length (outcomes_of m r)). absurd (none-some _ (sym ex ∙ (nth_there (outcomes_of m r) i b).1)))
             (λ (b : length (outcomes_of m r) ≤ i). b)
             (cases_lt i (length (outcomes_of m r))),
       )

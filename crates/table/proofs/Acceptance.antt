@@ -2,6 +2,7 @@
 use Rattle.std.proofs.Common.{◌≡◌, ℕ, ◌*◌, ◌%◌, ◌<◌, ◌≤◌, Bool, true, false, cond, not, eqb, ltb, leb, ◌⊎◌, List, [], ◌∷◌, length, is_some, is_ok, Some, None, Decides, Option, sym, refl, ◌∙◌, subst, inl, inr, ⊎_elim, arith}
 use Rattle.std.specs.List.{slice_get}
 use Rattle.std.proofs.lemmas.Bool.{and_parts, or_cases, or_left, or_right, not-false, not_from_true, eqb-true, eqb-false, eq-eqb, ne_eqb, ltb-true, ltb-false, lt-ltb, le-ltb, leb-true, le-leb, cases_eq, cases_lt, both_ways}
+use Rattle.std.proofs.lemmas.Option.{none-some, same_Some}
 use Rattle.arena.specs.Meaning.{Meaning, Lawful}
 use Rattle.arena.specs.declared.moves.Outcome.{Outcome}
 use Rattle.table.specs.declared.row.Row.{Row}
@@ -12,7 +13,7 @@ use Rattle.table.specs.Rows.{StandsAt, first_row, start_row, row_after, outcomes
 use Rattle.table.specs.Ranks.{rank_of, keeps_for, keeps}
 use Rattle.table.specs.Check.{when, numbered, verdict, is_before, is_own, place_faults, start_faults, target_faults, outcome_faults, move_faults, faults, checked}
 use Rattle.table.specs.Accepts.{Accepts}
-use Rattle.table.proofs.Lists.{none_some, some_same, cons_nil, append_nil, when_nil, numbered_nil, numbered_all}
+use Rattle.table.proofs.Lists.{cons_nil, append_nil, when_nil, numbered_nil, numbered_all}
 use Rattle.table.proofs.Finds.{first_stands, stands_first}
 
 -- the rule for one odd colour, in words
@@ -72,8 +73,8 @@ some_value None e = absurd (both_ways true (sym e) refl)
 some_value (Some x) e = (x, refl)
 
 not_before : (s t : ℕ) (o : Option ℕ) → is_before s o ≡ false → o ≡ Some t → s ≤ t
-not_before s t None e h = absurd (none_some h)
-not_before s t (Some k) e h = omega (arith, ltb-false k s e, some_same h)
+not_before s t None e h = absurd (none-some _ h)
+not_before s t (Some k) e h = omega (arith, ltb-false k s e, same_Some _ _ h)
 
 -- the five tests of the check, each without a fault
 record Clean {P : Type 0} (m : Meaning P) (rows : List (Row P)) (rule : ℕ → ℕ → ℕ → Bool) (fit : Bool) : Type 0 where
@@ -137,13 +138,13 @@ module _ {P : Type 0} (m : Meaning P) (ok : Lawful m) (rows : List (Row P)) (ran
               let q = and_parts (m.owns r.position) _ (place s r e).0 in
               let l = and_parts (leb (m.priority r.position) r.latch) _ q.1 in
               (q.0, leb-true _ _ l.0, leb-true _ _ l.1);
-          apart = λ s t p l x y. some_same (sym (first_here s p l x) ∙ first_here t p l y);
+          apart = λ s t p l x y. same_Some _ _ (sym (first_here s p l x) ∙ first_here t p l y);
           starts = let f = some_value (start_row m rows) (not-false _ c.first) in (f.0, first_stands m _ _ ok rows f.0 f.1);
           legal = λ s r e. (move s r e).0;
           leads = λ s i r o e h. let f = target s i r o e h in (f.0, first_stands m _ _ ok rows f.0 f.1);
           falls = λ s i t p r o e h x od b.
               let f = target s i r o e h in
-              let q : f.0 ≡ t = some_same (sym f.1 ∙ first_here t _ _ x) in
+              let q : f.0 ≡ t = same_Some _ _ (sym f.1 ∙ first_here t _ _ x) in
               let k : keeps ranks (length rows) (colour_of r.latch o) s t ≡ true = rw (← q) f.2 in
               keeps_falls ranks (length rows) p _ s t (keeps_odd ranks (length rows) _ s t p k od b);
         }

@@ -1,22 +1,12 @@
 -- Lists of faults, and what stands at a number.
-use Rattle.std.proofs.Common.{◌≡◌, ℕ, zero, suc, ◌+◌, ◌<◌, Bool, true, false, List, [], ◌∷◌, ◌++◌, length, Some, None, Ok, Err, Option, Result, refl, ap, arith}
+use Rattle.std.proofs.Common.{◌≡◌, ℕ, zero, suc, ◌+◌, Bool, true, false, List, [], ◌∷◌, ◌++◌, Some, Ok, Err, Result, refl, ap, arith}
 use Rattle.std.specs.List.{slice_get}
+use Rattle.std.proofs.lemmas.Option.{none-some, same_Some}
 use Rattle.table.specs.declared.fault.Fault.{Fault}
 use Rattle.table.specs.Check.{when, numbered, verdict}
 
-pub none_some : {A : Type 0} {x : A} → ◌≡◌ {A = Option A} None (Some x) → ⊥
-none_some e = let z : ◌≡◌ {A = ℕ} 0 1 = cc in omega arith
-
-pub some_same : {A : Type 0} {x y : A} → ◌≡◌ {A = Option A} (Some x) (Some y) → x ≡ y
-some_same e = cc
-
 pub cons_nil : {A : Type 0} {x : A} {xs : List A} → ◌≡◌ {A = List A} (x ∷ xs) [] → ⊥
 cons_nil e = let z : ◌≡◌ {A = ℕ} 0 1 = cc in omega arith
-
-pub nth_within : {A : Type 0} (xs : List A) (k : ℕ) (x : A) → slice_get xs k ≡ Some x → k < length xs
-nth_within [] k x e = absurd (none_some e)
-nth_within (y ∷ xs) zero x e = omega arith
-nth_within (y ∷ xs) (suc k) x e = omega (arith, nth_within xs k x e)
 
 pub append_nil : {A : Type 0} (xs ys : List A) → xs ++ ys ≡ [] → (xs ≡ []) × (ys ≡ [])
 append_nil [] ys e = (refl, e)
@@ -28,9 +18,9 @@ when_nil false f e = refl
 
 numbered_from : {X : Type 0} (f : ℕ → X → List Fault) (n : ℕ) (xs : List X) → numbered f n xs ≡ [] →
     (k j : ℕ) (x : X) → n + k ≡ j → slice_get xs k ≡ Some x → f j x ≡ []
-numbered_from f n [] e k j x q h = absurd (none_some h)
+numbered_from f n [] e k j x q h = absurd (none-some _ h)
 numbered_from f n (y ∷ xs) e zero j x q h =
-    let i : n ≡ j = omega arith in rw (← i, ← some_same h) (append_nil (f n y) _ e).0
+    let i : n ≡ j = omega arith in rw (← i, ← same_Some _ _ h) (append_nil (f n y) _ e).0
 numbered_from f n (y ∷ xs) e (suc k) j x q h = numbered_from f (suc n) xs (append_nil (f n y) _ e).1 k j x (omega arith) h
 
 -- where nothing is found at all, nothing is found at any number
