@@ -12,7 +12,6 @@ use crate::form::{field_fault, read_kind};
 use crate::item::RowLine;
 use crate::limits::MAX_CEILING;
 use crate::line::Line;
-use crate::text::cut;
 use casetext::fault::TextFault;
 use casetext::line::Kind;
 use refusals::refusal::Refuses;
@@ -86,13 +85,10 @@ impl Draft {
         requires { length text.now ≤ 65536 }
         ensures { answered result (said self.new) ≡ read_lines 0 (Ok (said self.old)) (lines text.now) }
     {
-        let mut number = 0;
-        let mut rest = text;
-        while !rest.is_empty() {
-            let (bytes, after) = cut(rest, b'\n');
-            number += 1;
+        for (i, line) in text.split_inclusive(|b| *b == b'\n').enumerate() {
+            let bytes = line.strip_suffix(b"\n").unwrap_or(line);
+            let number = i as u32 + 1;
             self.read_line(&Line { number, bytes })?;
-            rest = after.unwrap_or(&[]);
         }
         Ok(())
     }
