@@ -2,47 +2,57 @@
 ghost use Rattle.std.specs.Prelude.{◌≡◌, ◌+◌, ◌≤◌, if◌then◌else◌, ◌==◌};
 ghost use Rattle.clocks.specs.Regions.{resting, rising, leave, seen, upto, rank, ranked, top};
 ghost use Rattle.regions.specs.Types.{Ceilings};
-ghost use Rattle.regions.specs.Code.{part_of, parts, unceiled, within, ceiled, Small};
+ghost use Rattle.regions.specs.Code.{part_of, tick_ceiling, parts, unceiled, within, ceiled, Small};
 
-use crate::region::{Ceilings, ClockRegion, HIGHEST_CEILING, Region};
+use crate::region::{Ceilings, ClockRegion, HIGHEST_CEILING, Region, TICK_CEILING};
+use crate::with_tick::WithTick;
 
-impl ClockRegion {
-    /// Whether a clock with this ceiling can stand here.
-    pub(crate) fn is_within(self, ceiling: u8) -> bool
-        ensures { result ≡ within (part_of ceiling self) }
+/// A clock's ceiling, and where the clock stands.
+#[derive(Clone, Copy)]
+pub(crate) struct Part {
+    pub(crate) ceiling: u8,
+    pub(crate) at: ClockRegion,
+}
+
+impl Part {
+    /// Whether the clock can stand there.
+    pub(crate) fn is_within(self) -> bool
+        ensures { result ≡ within (part_of self.ceiling self.at) }
     {
-        self.whole as u16 <= ceiling as u16 + 1 && (self.class == 0 || self.whole < ceiling)
+        let Part { ceiling, at } = self;
+        at.whole as u16 <= ceiling as u16 + 1 && (at.class == 0 || at.whole < ceiling)
     }
 
     /// Whether the clock is not past, at class 0.
-    pub(crate) fn is_resting(self, ceiling: u8) -> bool
-        ensures { result ≡ resting (part_of ceiling self) }
+    pub(crate) fn is_resting(self) -> bool
+        ensures { result ≡ resting (part_of self.ceiling self.at) }
     {
-        self.whole <= ceiling && self.class == 0
+        self.at.whole <= self.ceiling && self.at.class == 0
     }
 
     /// Whether the clock is below its ceiling, at class 0.
-    pub(crate) fn is_rising(self, ceiling: u8) -> bool
-        ensures { result ≡ rising (part_of ceiling self) }
+    pub(crate) fn is_rising(self) -> bool
+        ensures { result ≡ rising (part_of self.ceiling self.at) }
     {
-        self.whole < ceiling && self.class == 0
+        self.at.whole < self.ceiling && self.at.class == 0
     }
 
     /// Where the clock stands once the clocks at class 0 have left their whole parts. Positive
     /// classes rise if some of those clocks are not past then.
-    pub(crate) fn leave(self, ceiling: u8, classes_rise: bool) -> ClockRegion
-        requires { Small ceiling self }
-        ensures { part_of ceiling result ≡ leave classes_rise (part_of ceiling self) }
+    pub(crate) fn leave(self, classes_rise: bool) -> ClockRegion
+        requires { Small self.ceiling self.at }
+        ensures { part_of self.ceiling result ≡ leave classes_rise (part_of self.ceiling self.at) }
     {
-        if self.whole > ceiling {
-            self
-        } else if self.class > 0 {
+        let Part { ceiling, at } = self;
+        if at.whole > ceiling {
+            at
+        } else if at.class > 0 {
             ClockRegion {
-                class: self.class + classes_rise as u8,
-                ..self
+                class: at.class + classes_rise as u8,
+                ..at
             }
-        } else if self.whole < ceiling {
-            ClockRegion { class: 1, ..self }
+        } else if at.whole < ceiling {
+            ClockRegion { class: 1, ..at }
         } else {
             ClockRegion {
                 whole: ceiling + 1,
@@ -50,7 +60,9 @@ impl ClockRegion {
             }
         }
     }
+}
 
+impl ClockRegion {
     /// Where the clock stands once the clocks of the highest class have reached their next whole
     /// parts.
     pub(crate) fn arrive(self, highest: u8) -> ClockRegion
@@ -86,9 +98,26 @@ impl Ceilings {
     {
         self.map(|ceiling| ceiling <= HIGHEST_CEILING).all()
     }
+
+    /// The ceilings of all clocks, the tick clock's too.
+    pub fn with_tick_clock(self) -> WithTick<u8>
+        ensures { result ≡ record { x = self.x; y = self.y; z = self.z; tick = tick_ceiling } }
+    {
+        self.with_tick(TICK_CEILING)
+    }
 }
 
 impl Region {
+    /// Each clock with its ceiling.
+    pub(crate) fn parts(self, ceilings: Ceilings) -> WithTick<Part>
+        ensures { result ≡ record { x = record { ceiling = ceilings.x; at = self.x }; y = record { ceiling = ceilings.y; at = self.y }; z = record { ceiling = ceilings.z; at = self.z }; tick = record { ceiling = tick_ceiling; at = self.tick } } }
+    {
+        ceilings
+            .with_tick_clock()
+            .zip(self)
+            .map(|(ceiling, at)| Part { ceiling, at })
+    }
+
     /// Whether some clock has this class.
     fn has_class(self, class: u8) -> bool
         ensures { result ≡ seen (unceiled self) class }
@@ -100,9 +129,7 @@ impl Region {
     pub(crate) fn highest_class(self) -> u8
         ensures { result ≡ top (unceiled self) }
     {
-        self.x
-            .class
-            .max(self.y.class.max(self.z.class.max(self.tick.class)))
+        self.map(|at| at.class).max()
     }
 
     /// How many of the classes from 1 to `last` some clock has.

@@ -1,5 +1,5 @@
 //! One of something for each clock of a game and for the tick clock.
-ghost use Rattle.std.specs.Prelude.{◌≡◌, ◌&&◌, ◌||◌};
+ghost use Rattle.std.specs.Prelude.{◌≡◌, ◌&&◌, ◌||◌, max};
 
 use crate::per_clock::PerClock;
 
@@ -67,5 +67,15 @@ impl WithTick<bool> {
         ensures { result ≡ (self.x && self.y && self.z && self.tick) }
     {
         self.without_tick().all() && self.tick
+    }
+}
+
+impl WithTick<u8> {
+    /// The largest.
+    #[inline]
+    pub fn max(self) -> u8
+        ensures { result ≡ max self.x (max self.y (max self.z self.tick)) }
+    {
+        self.x.max(self.y.max(self.z.max(self.tick)))
     }
 }

@@ -2,23 +2,18 @@
 ghost use Rattle.std.specs.Prelude.{◌≡◌, true, map, is_some, IfSome, nat_lt};
 ghost use Rattle.std.specs.Option.{option_map};
 ghost use Rattle.clocks.specs.Regions.{some, resting, rising, leave, ranked, zeroed, next, waits};
-ghost use Rattle.regions.specs.Code.{parts, tick_ceiling, flags, proper, is_own, Smalls};
+ghost use Rattle.regions.specs.Code.{parts, flags, proper, is_own, Smalls};
 ghost use Rattle.regions.specs.Standing.{standing};
 
 use super::Clocks;
-use crate::region::{Ceilings, ClockRegion, Region, Restart, TICK_CEILING};
-use crate::with_tick::WithTick;
+use crate::region::{Ceilings, Region, Restart};
 
 /// Whether whole parts and classes are those of a region of clocks with these ceilings.
 fn is_own(c: Ceilings, region: Region) -> bool
     ensures { result ≡ is_own (parts c region) }
 {
     let highest = region.highest_class();
-    c.with_tick(TICK_CEILING)
-        .zip(region)
-        .map(|(ceiling, at)| at.is_within(ceiling))
-        .all()
-        && region.classes_up_to(highest) == highest
+    region.parts(c).map(|part| part.is_within()).all() && region.classes_up_to(highest) == highest
 }
 
 impl Clocks {
@@ -41,22 +36,13 @@ impl Clocks {
         self.region.tick.whole > 0
     }
 
-    /// Each clock's ceiling, and where it stands.
-    fn parts(self) -> WithTick<(u8, ClockRegion)>
-        ensures x { result.x ≡ (self.ceilings.x, self.region.x) }
-        ensures y { result.y ≡ (self.ceilings.y, self.region.y) }
-        ensures z { result.z ≡ (self.ceilings.z, self.region.z) }
-        ensures tick { result.tick ≡ (tick_ceiling, self.region.tick) }
-    {
-        self.ceilings.with_tick(TICK_CEILING).zip(self.region)
-    }
-
     /// Whether some clock is not past, at class 0.
     fn some_rest(self) -> bool
         ensures { result ≡ some resting (standing self) }
     {
-        self.parts()
-            .map(|(ceiling, at)| at.is_resting(ceiling))
+        self.region
+            .parts(self.ceilings)
+            .map(|part| part.is_resting())
             .any()
     }
 
@@ -64,8 +50,9 @@ impl Clocks {
     fn some_rise(self) -> bool
         ensures { result ≡ some rising (standing self) }
     {
-        self.parts()
-            .map(|(ceiling, at)| at.is_rising(ceiling))
+        self.region
+            .parts(self.ceilings)
+            .map(|part| part.is_rising())
             .any()
     }
 
@@ -75,7 +62,9 @@ impl Clocks {
         ensures { parts self.ceilings result ≡ map (leave (some rising (standing self))) (standing self) }
     {
         let rise = self.some_rise();
-        self.parts().map(|(ceiling, at)| at.leave(ceiling, rise))
+        self.region
+            .parts(self.ceilings)
+            .map(|part| part.leave(rise))
     }
 
     /// The next region, if there is one.
