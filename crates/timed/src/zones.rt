@@ -14,7 +14,7 @@ fn interval_of(row: Bounds) -> Interval
     ensures { result.bounds ≡ row }
 {
     let Some(interval) = Interval::new(row) else {
-        unreachable()
+        unreachable!()
     };
     interval
 }

@@ -11,7 +11,7 @@ ghost use Rattle.readings.specs.View.{clocks_of, view, begun, refined, delayed, 
 use super::Readings;
 use crate::grains::Grains;
 use crate::spots::{Spot, region_of};
-use regions::region::{Ceilings, Restart, TICK_CEILING};
+use regions::region::{Ceilings, Restart};
 use regions::standing::Clocks;
 use regions::with_tick::WithTick;
 
@@ -83,23 +83,17 @@ impl Readings {
 
     /// Each clock's ceiling, and what it reads.
     fn clocks(self) -> WithTick<(u8, u32)>
-        ensures x { result.x ≡ (self.ceilings.x, self.grains.x) }
-        ensures y { result.y ≡ (self.ceilings.y, self.grains.y) }
-        ensures z { result.z ≡ (self.ceilings.z, self.grains.z) }
-        ensures tick { result.tick ≡ (tick_ceiling, self.grains.tick) }
+        ensures { result ≡ record { x = (self.ceilings.x, self.grains.x); y = (self.ceilings.y, self.grains.y); z = (self.ceilings.z, self.grains.z); tick = (tick_ceiling, self.grains.tick) } }
     {
-        self.ceilings.with_tick(TICK_CEILING).zip(self.grains)
+        self.ceilings.with_tick_clock().zip(self.grains)
     }
 
     /// The most that each clock reads: one unit above its ceiling.
     fn most(self) -> WithTick<u32>
-        ensures x { result.x ≡ (self.ceilings.x + 1) * self.scale }
-        ensures y { result.y ≡ (self.ceilings.y + 1) * self.scale }
-        ensures z { result.z ≡ (self.ceilings.z + 1) * self.scale }
-        ensures tick { result.tick ≡ (tick_ceiling + 1) * self.scale }
+        ensures { result ≡ record { x = (self.ceilings.x + 1) * self.scale; y = (self.ceilings.y + 1) * self.scale; z = (self.ceilings.z + 1) * self.scale; tick = (tick_ceiling + 1) * self.scale } }
     {
         self.ceilings
-            .with_tick(TICK_CEILING)
+            .with_tick_clock()
             .map(|ceiling| (ceiling as u32 + 1) * self.scale)
     }
 
@@ -153,7 +147,7 @@ impl Readings {
     {
         let region = region_of(self.spots());
         let Some(clocks) = Clocks::new(self.ceilings, region) else {
-            unreachable()
+            unreachable!()
         };
         clocks
     }

@@ -11,7 +11,7 @@ use super::listing::TimedListing;
 use arena::arena::Arena;
 use arena::moves::{Move, Outcome, Side};
 use game::parts::TimedPosition;
-use regions::region::{ClockRegion, Region, TICK_CEILING};
+use regions::region::{ClockRegion, Region};
 use soundness::items::item_at;
 
 /// A clock at zero; one that the game does not have, with ceiling 0, stands past it.
@@ -37,7 +37,7 @@ impl Arena for TimedGame {
     fn start(&self) -> TimedPosition {
         TimedPosition {
             location: 0,
-            region: self.ceilings.with_tick(TICK_CEILING).map(fresh_clock),
+            region: self.ceilings.with_tick_clock().map(fresh_clock),
         }
     }
 
@@ -46,6 +46,7 @@ impl Arena for TimedGame {
     }
 
     fn digest(&self, p: &TimedPosition) -> u32 {
+        // each factor is how many values the numbers before it take together: 33, and by turns 17 and 5
         let Region { x, y, z, tick } = p.region;
         p.location as u32
             + 33 * x.whole as u32

@@ -78,11 +78,11 @@ impl TimedGame {
             }
             Stage::Wait(place) => Some(listing.enter(place)),
             Stage::Edges(place, mut from) => {
-                let Some(edge) = self.next_edge(place, &mut from) else {
+                let Some(outcome) = self.next_edge(place, &mut from) else {
                     return listing.go_on(place);
                 };
                 listing.stage = Some(Stage::Edges(place, from));
-                Some(edge)
+                Some(outcome)
             }
         }
     }

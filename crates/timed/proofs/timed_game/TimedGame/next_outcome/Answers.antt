@@ -13,7 +13,7 @@ returns-in-Some c =
     let later = c.args.listing.now.later in
     let at = c.in-Edges.place in
     ap (rest g later) (c.in_ok-ours.was ∙ ap Some c.in-Edges.is)
-    ∙ edge_handed c.in-Some.edge (edges_from g at.location (standing at.clocks) c.in-Edges.from) (edges_from g at.location (standing at.clocks) c.next_edge.new.from) (theirs_after g at.location later (standing at.clocks)) c.in-Some.ensures
+    ∙ edge_handed c.in-Some.outcome (edges_from g at.location (standing at.clocks) c.in-Edges.from) (edges_from g at.location (standing at.clocks) c.next_edge.new.from) (theirs_after g at.location later (standing at.clocks)) c.in-Some.ensures
 
 pub returns-in_default : goal.returns-in_default
 returns-in_default c =
