@@ -61,10 +61,9 @@ impl<'a, 'r, A: Arena> IndexedRows<'a, 'r, A> {
         ensures { result ≡ verdict tt (start_faults (A.Arena.meaning self.now.arena.now) self.now.rows.now) }
     {
         let start = self.arena.start();
-        match self.row_of(&start, self.arena.priority(&start)) {
-            Some(_) => Ok(()),
-            None => Err(Fault::NoStartRow),
-        }
+        self.row_of(&start, self.arena.priority(&start))
+            .ok_or(Fault::NoStartRow)?;
+        Ok(())
     }
 
     /// Tests one outcome of a row's move, and shows where it leads.
@@ -86,12 +85,11 @@ impl<'a, 'r, A: Arena> IndexedRows<'a, 'r, A> {
             outcome,
         } = branch;
         let next = latch_after(self.arena, latch, outcome);
-        let Some(to) = self.row_of(&outcome.position, next) else {
-            return Err(Fault::NoRow {
-                row,
-                outcome: number,
-            });
+        let lacking = Fault::NoRow {
+            row,
+            outcome: number,
         };
+        let to = self.row_of(&outcome.position, next).ok_or(lacking)?;
         let passage = Passage {
             from: row,
             outcome: number,

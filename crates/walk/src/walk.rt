@@ -9,6 +9,7 @@ ghost use Rattle.runs.specs.Walk.{new_walk, tallied, row_here, moved, chosen_by,
 use arena::arena::Arena;
 use arena::moves::Outcome;
 use runs::state::{State, Tally};
+use std::cmp::Ordering;
 use table::fault::Fault;
 use table::odd::{OddColour, PerColour};
 use table::rounds::{colour_of, latch_after};
@@ -30,13 +31,10 @@ fn tallied_after(p: OddColour, colour: u16, count: u32) -> u32
     requires { count < MAX_ROUNDS }
     ensures { result ≡ tallied (odd p) colour count }
 {
-    let p = p.number();
-    if p < colour {
-        0
-    } else if p == colour {
-        count + 1
-    } else {
-        count
+    match p.number().cmp(&colour) {
+        Ordering::Less => 0,
+        Ordering::Equal => count + 1,
+        Ordering::Greater => count,
     }
 }
 

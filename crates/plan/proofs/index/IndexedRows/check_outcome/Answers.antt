@@ -11,11 +11,11 @@ visit-requires g c =
     let b = c.args.branch in
     let o = b.outcome.now in
     let m = g.A.Arena.meaning table.arena.now in
-    let leads : row_after m table.rows.now b.latch o ≡ Some c.in-Some.to =
-    ap (first_row m table.rows.now o.position) (sym c.latch_after-next.ensures) ∙ sym c.in-Some.ensures in
+    let leads : row_after m table.rows.now b.latch o ≡ Some c.in_ok-to.to =
+    ap (first_row m table.rows.now o.position) (sym c.latch_after-next.ensures) ∙ sym c.row_of.ensures ∙ c.in_ok-to.ensures.ok_part in
     let r = c.requires.ready in
     let is : c.colour_of.result ≡ colour_of b.latch o = search rules in
-    (r.0, (r.1.0, passage_next m table.rows.now b.row b.latch b.number c.in-Some.to c.colour_of.result o leads is (omega arith) (omega arith) r.0 r.1.1))
+    (r.0, (r.1.0, passage_next m table.rows.now b.row b.latch b.number c.in_ok-to.to c.colour_of.result o leads is (omega arith) (omega arith) r.0 r.1.1))
 
 pub returns-then-visit : goal.returns-then-visit
 returns-then-visit g c =
@@ -26,10 +26,10 @@ returns-then-visit g c =
     let s = b.row in
     let l = b.latch in
     let i = b.number in
-    let t = c.in-Some.to in
+    let t = c.in_ok-to.to in
     let o = b.outcome.now in
     let k = c.colour_of.result in
-    let leads : row_after m rows l o ≡ Some t = ap (first_row m rows o.position) (sym c.latch_after-next.ensures) ∙ sym c.in-Some.ensures in
+    let leads : row_after m rows l o ≡ Some t = ap (first_row m rows o.position) (sym c.latch_after-next.ensures) ∙ sym c.row_of.ensures ∙ c.in_ok-to.ensures.ok_part in
     let is : c.colour_of.result ≡ colour_of l o = search rules in
     let seen = g.V.Visitor.seen c.visit.new.self (length rows) in
     record {
