@@ -1,23 +1,30 @@
 //! Reads intervals.
-ghost use Rattle.std.specs.Prelude.{◌≡◌, ◌&&◌};
-ghost use Rattle.game.specs.Intervals.{inhabited, bounded};
-ghost use Rattle.casetext.specs.Fields.{bracket, bound, upper, interval};
+ghost use Rattle.std.specs.Prelude.{◌≡◌};
+ghost use Rattle.casetext.specs.Fields.{opening, closing, bound, upper, interval};
 
 use crate::limits::MAX_BOUND;
 use crate::text::{cut, read_number};
 use game::bounds::{Bound, Bounds};
-use soundness::bounds::{is_bounded, is_inhabited};
 
-/// Whether a bracket is round.
-fn is_round(b: u8, square: u8, round: u8) -> Option<bool>
-    ensures { result ≡ bracket square round b }
+/// Whether the bracket before an interval is round.
+fn opens_round(bracket: u8) -> Option<bool>
+    ensures { result ≡ opening bracket }
 {
-    if b == square {
-        Some(false)
-    } else if b == round {
-        Some(true)
-    } else {
-        None
+    match bracket {
+        b'[' => Some(false),
+        b'(' => Some(true),
+        _ => None,
+    }
+}
+
+/// Whether the bracket behind an interval is round.
+fn closes_round(bracket: u8) -> Option<bool>
+    ensures { result ≡ closing bracket }
+{
+    match bracket {
+        b']' => Some(false),
+        b')' => Some(true),
+        _ => None,
     }
 }
 
@@ -47,17 +54,10 @@ pub(crate) fn read_interval(field: &[u8]) -> Option<Bounds>
     let [first, inner @ .., last] = field else {
         return None;
     };
-    let low_open = is_round(*first, b'[', b'(')?;
-    let high_open = is_round(*last, b']', b')')?;
+    let low_open = opens_round(*first)?;
+    let high_open = closes_round(*last)?;
     let (low, rest) = cut(inner, b',');
     let low = read_bound(low_open, low)?;
     let high = read_upper(high_open, rest?)?;
     Some(Bounds { low, high })
-}
-
-/// The interval contains a reading, and no bound is above the ceiling.
-pub(crate) fn fits_clock(bounds: Bounds, ceiling: u8) -> bool
-    ensures { result ≡ (inhabited bounds && bounded ceiling bounds) }
-{
-    is_inhabited(bounds) && is_bounded(bounds, ceiling)
 }

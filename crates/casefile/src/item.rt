@@ -8,7 +8,7 @@ use crate::limits::{
     MAX_CLASS, MAX_EDGE, MAX_LOCATION, MAX_PRIORITY, MAX_RANK, MAX_STEPS, MAX_WHOLE,
 };
 use crate::line::Line;
-use crate::text::{byte_at, read_number};
+use crate::text::read_number;
 use arena::moves::{Move, Side};
 use casetext::ranks::Ranks;
 use game::bounds::{Bounds, EVERYWHERE, Zone};
@@ -44,7 +44,7 @@ fn side_of(field: &[u8]) -> Side
 fn resets_of(letters: &[u8]) -> Resets
     ensures { result ≡ resets letters.now }
 {
-    CLOCKS.map(|clock| byte_at(letters, clock) == b'r')
+    CLOCKS.map(|clock| letters.get(clock) == Some(&b'r'))
 }
 
 impl Line<'_> {

@@ -8,7 +8,7 @@ ghost use Rattle.casetext.specs.Case.{added, read_line, read_lines};
 ghost use Rattle.casefile.specs.Draft.{said, answered};
 
 use crate::draft::Draft;
-use crate::form::{field_fault, read_kind};
+use crate::form::{form_fault, read_kind};
 use crate::item::RowLine;
 use crate::limits::MAX_CEILING;
 use crate::line::Line;
@@ -41,7 +41,7 @@ impl Draft {
         requires { i < length (forms (said self.now) kind) }
         ensures { result ≡ wrong line (i + 1) (slice_index_or (forms (said self.now) kind) i Owner) field.now }
     {
-        field_fault(line, i as u32 + 1, self.form_at(kind, i), field)
+        form_fault(line, i as u32 + 1, self.form_at(kind, i), field)
     }
 
     /// Adds what a line without faults says.

@@ -14,7 +14,6 @@ use crate::draft::Draft;
 use crate::item::CLOCKS;
 use crate::limits::MAX_TEXT;
 use crate::room::Room;
-use crate::text::byte_at;
 use casetext::fault::TextFault;
 use regions::region::Ceilings;
 use std::alloc::Global;
@@ -24,7 +23,7 @@ use timed::timed_game::TimedGame;
 fn all_ceilings(ceilings: &[u8]) -> Ceilings
     ensures { result ≡ ceilings_of ceilings.now }
 {
-    CLOCKS.map(|clock| byte_at(ceilings, clock))
+    CLOCKS.map(|clock| ceilings.get(clock).copied().unwrap_or(0))
 }
 
 /// The case that the lines have said, if its game is sound: where lines have no fault, only the

@@ -1,5 +1,5 @@
 //! Parts a text, and reads the numbers in it.
-ghost use Rattle.std.specs.Prelude.{◌≡◌, slice_index};
+ghost use Rattle.std.specs.Prelude.{◌≡◌};
 ghost use Rattle.std.specs.Option.{option_map};
 ghost use Rattle.casetext.specs.Text.{number, before, behind};
 
@@ -22,13 +22,6 @@ pub(crate) fn read_number(field: &[u8], low: u16, high: u16) -> Option<u16>
         }
     }
     (u32::from(low) <= n).then_some(n as u16)
-}
-
-/// The i-th byte from 0, or 0 where there is none.
-pub(crate) fn byte_at(bytes: &[u8], i: usize) -> u8
-    ensures { result ≡ slice_index bytes.now i }
-{
-    bytes.get(i).copied().unwrap_or(0)
 }
 
 /// What comes before the first `sep`, and what comes behind it.
