@@ -1,5 +1,5 @@
 -- A ring as it is written to the front of a list.
-use Rattle.std.proofs.Common.{◌≡◌, ℕ, suc, ◌+◌, ◌%◌, ◌<◌, ◌≤◌, List, [], ◌∷◌, ◌++◌, length, get_or, drop, set, sym, refl, ap, ◌∙◌, subst, ⊎_elim, add-one, arith}
+use Rattle.std.proofs.Common.{◌≡◌, ℕ, suc, ◌+◌, ◌%◌, ◌<◌, ◌≤◌, List, [], ◌∷◌, ◌++◌, length, get_or, drop, set, Option, unwrap_or, sym, refl, ap, ◌∙◌, subst, ⊎_elim, add-one, arith}
 use Rattle.std.proofs.lemmas.List.{drop_more, set_at, append_assoc}
 use Rattle.std.proofs.lemmas.Bool.{cases_eq, cases_lt}
 use Rattle.table.specs.declared.odd.OddColour.{OddColour}
@@ -13,7 +13,7 @@ use Rattle.plan.specs.declared.passage.Passage.{Passage}
 use Rattle.ranker.specs.Arcs.{arc_at, Tells, Told}
 use Rattle.std.proofs.Math.Logic.{∥∥₁_elim}
 use Rattle.std.specs.Coded.{Coded-set, coded_ℕ, ×_prop, le_prop}
-use Rattle.ranker.specs.Lifts.{rank_in, pick_in, Owned, LiftedBy, OnRings}
+use Rattle.ranker.specs.Lifts.{rank_in, place_in, pick_in, Owned, LiftedBy, OnRings}
 use Rattle.ranker.specs.Loops.{Written}
 use Rattle.ranker.proofs.Raises.{picks, leads}
 
@@ -38,7 +38,7 @@ over es e was k q b =
     ap (λ (x : List Pair). set (es ++ x) k e) (drop_more was k e b)
     ∙ (set_at es (get_or was k e) (drop (k + 1) was) e k q ∙ sym (append_assoc es (e ∷ []) (drop (k + 1) was)))
 
-module _ (arcs : List Passage) (ranks by : List ℕ) (row : ℕ) (own : Owned arcs ranks by) (ring : OnRings arcs ranks by row) (g : Graph) (tells : Tells (length ranks) arcs g)
+module _ (arcs : List Passage) (ranks : List ℕ) (by : List (Option ℕ)) (row : ℕ) (own : Owned arcs ranks by) (ring : OnRings arcs ranks by row) (g : Graph) (tells : Tells (length ranks) arcs g)
     (was is : List Pair) (k at : ℕ) (x : Along g (pick_in arcs by) row k at was is) where
   abbrev on : OnRing g (rank_in ranks) (pick_in arcs by) (length ranks) row
   on = ring g tells
@@ -60,7 +60,7 @@ module _ (arcs : List Passage) (ranks by : List ℕ) (row : ℕ) (own : Owned ar
   abbrev pair : Pair
   pair = record { row = at; outcome = pick_in arcs by at }
 
-  next_there : after g (pick_in arcs by) (k + 1) row ≡ (arc_at arcs (get_or by at 0)).to
+  next_there : after g (pick_in arcs by) (k + 1) row ≡ (arc_at arcs (unwrap_or (place_in by at) 0)).to
   next_there =
       after_more g (pick_in arcs by) k row
       ∙ ap (λ (s : ℕ). g.to s (pick_in arcs by s)) x.there
@@ -74,7 +74,7 @@ module _ (arcs : List Passage) (ranks by : List ℕ) (row : ℕ) (own : Owned ar
       ∙ over (way g (pick_in arcs by) k row) pair was k (length_way g (pick_in arcs by) k row) b
       ∙ ap (λ (xs : List Pair). xs ++ drop (k + 1) was) (ap (λ (y : Pair). way g (pick_in arcs by) k row ++ y ∷ []) (sym e) ∙ sym (way_more g (pick_in arcs by) k row))
 
-  pub along_more : k < length was → ((arc_at arcs (get_or by at 0)).to ≡ row → ⊥) → Along g (pick_in arcs by) row (k + 1) (arc_at arcs (get_or by at 0)).to was (set is k pair)
+  pub along_more : k < length was → ((arc_at arcs (unwrap_or (place_in by at) 0)).to ≡ row → ⊥) → Along g (pick_in arcs by) row (k + 1) (arc_at arcs (unwrap_or (place_in by at) 0)).to was (set is k pair)
   along_more b on =
       record {
         there = next_there;
@@ -86,7 +86,7 @@ module _ (arcs : List Passage) (ranks by : List ℕ) (row : ℕ) (own : Owned ar
             (cases_eq j (k + 1));
       }
 
-  pub along_all : (p : ℕ) → LiftedBy arcs p ranks by → k < length was → (arc_at arcs (get_or by at 0)).to ≡ row → p % 2 ≡ 1 → Written g p was (k + 1) (set is k pair)
+  pub along_all : (p : ℕ) → LiftedBy arcs p ranks by → k < length was → (arc_at arcs (unwrap_or (place_in by at) 0)).to ≡ row → p % 2 ≡ 1 → Written g p was (k + 1) (set is k pair)
   along_all p lifted b back odd =
       let N : ℕ → Type 0 = λ i. after g (pick_in arcs by) i row ≡ row in
       let back' : N (suc k) = subst N (add-one k) (next_there ∙ back) in
@@ -100,7 +100,7 @@ module _ (arcs : List Passage) (ranks by : List ℕ) (row : ℕ) (own : Owned ar
       }
 
 -- the way is within the rows
-module _ (arcs : List Passage) (ranks by : List ℕ) (row : ℕ) (own : Owned arcs ranks by) (ring : OnRings arcs ranks by row) (told : ∥ Told (length ranks) arcs ∥₁)
+module _ (arcs : List Passage) (ranks : List ℕ) (by : List (Option ℕ)) (row : ℕ) (own : Owned arcs ranks by) (ring : OnRings arcs ranks by row) (told : ∥ Told (length ranks) arcs ∥₁)
     (was is : List Pair) (k at : ℕ) (along : (g : Graph) → Tells (length ranks) arcs g → Along g (pick_in arcs by) row k at was is) where
   pub along_within : (at < length ranks) × ((0 < rank_in ranks at) × (k < length ranks))
   along_within =

@@ -1,5 +1,5 @@
 -- Ranks of one colour on their way up from 0, as lists.
-use Rattle.std.specs.Prelude.{◌≡◌, ℕ, ◌+◌, ◌-◌, ◌<◌, ◌≤◌, cond, List, length, Some, None, sum_by, Option, ◌==◌, slice_index}
+use Rattle.std.specs.Prelude.{◌≡◌, ℕ, ◌+◌, ◌-◌, ◌<◌, ◌≤◌, cond, List, length, Some, None, sum_by, Option, ◌==◌, slice_index, slice_index_or, unwrap_or, option_map, MatchOption}
 use Rattle.std.specs.Iterator.{Yields}
 use Rattle.std.specs.List.{ContainsAt}
 use Rattle.plan.specs.declared.passage.Passage.{Passage}
@@ -11,9 +11,17 @@ use Rattle.ranker.specs.Arcs.{arc_at, Tells}
 abbrev pub rank_in : List ℕ → ℕ → ℕ
 rank_in ranks s = slice_index ranks s
 
--- the outcome by which row s was lifted last: that of an arc, told by its place
-abbrev pub pick_in : List Passage → List ℕ → ℕ → ℕ
-pick_in arcs by s = (arc_at arcs (slice_index by s)).outcome
+-- the place of the arc that lifted row s last, if any has
+abbrev pub place_in : List (Option ℕ) → ℕ → Option ℕ
+place_in by s = slice_index_or by s None
+
+-- that arc
+abbrev pub lifter_in : List Passage → List (Option ℕ) → ℕ → Option Passage
+lifter_in arcs by s = option_map (arc_at arcs) (place_in by s)
+
+-- its outcome; for a row that none has lifted one that is never read
+abbrev pub pick_in : List Passage → List (Option ℕ) → ℕ → ℕ
+pick_in arcs by s = (arc_at arcs (unwrap_or (place_in by s) 0)).outcome
 
 -- what an arc asks of the rank of its row for p
 abbrev pub due_by : ℕ → List ℕ → Passage → ℕ
@@ -30,16 +38,16 @@ Below ranks = (s : ℕ) → s < length ranks → rank_in ranks s < length ranks
 abbrev pub slack : List ℕ → ℕ
 slack ranks = sum_by (λ r. length ranks - r) ranks
 
--- a row above 0 was lifted last by an arc of its own
-abbrev pub Owned : List Passage → List ℕ → List ℕ → Type 0
-Owned arcs ranks by = (s : ℕ) → s < length ranks → 0 < rank_in ranks s → (slice_index by s < length arcs) × ((arc_at arcs (slice_index by s)).from ≡ s)
+-- a row above 0 was lifted last by an arc of its own, and a row at 0 by none
+abbrev pub Owned : List Passage → List ℕ → List (Option ℕ) → Type 0
+Owned arcs ranks by = (s : ℕ) → s < length ranks → MatchOption (place_in by s) (rank_in ranks s ≡ 0) (λ k. (0 < rank_in ranks s) × (k < length arcs) × ((arc_at arcs k).from ≡ s))
 
 -- the ranks are lifted for p, in every graph that the arcs tell of
-abbrev pub LiftedBy : List Passage → ℕ → List ℕ → List ℕ → Type 0
+abbrev pub LiftedBy : List Passage → ℕ → List ℕ → List (Option ℕ) → Type 0
 LiftedBy arcs p ranks by = (g : Graph) → Tells (length ranks) arcs g → ∥ Lifted g p (rank_in ranks) (pick_in arcs by) ∥₁
 
 -- row s lies on a ring of the arcs that lifted it and the next
-abbrev pub OnRings : List Passage → List ℕ → List ℕ → ℕ → Type 0
+abbrev pub OnRings : List Passage → List ℕ → List (Option ℕ) → ℕ → Type 0
 OnRings arcs ranks by s = (g : Graph) → Tells (length ranks) arcs g → OnRing g (rank_in ranks) (pick_in arcs by) (length ranks) s
 
 -- the numbers given from s on are below n, and when they end each of those was given

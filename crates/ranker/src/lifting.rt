@@ -1,10 +1,11 @@
 //! The ranks of one odd colour, lifted from 0 until every arc is met.
-ghost use Rattle.std.specs.Prelude.{◌≡◌, ◌<◌, ◌≤◌, length, MatchOption, slice_index};
+ghost use Rattle.std.specs.Prelude.{◌≡◌, ◌<◌, ◌≤◌, length, MatchOption};
+ghost use Rattle.std.proofs.Props.{props};
 ghost use Rattle.std.specs.Iterator.{IsFinite};
 ghost use Rattle.table.specs.Odd.{odd};
 ghost use Rattle.loops.specs.Graph.{Graph};
 ghost use Rattle.ranker.specs.Arcs.{arc_at, Tells};
-ghost use Rattle.ranker.specs.Lifts.{rank_in, due_by, Met, Below, Owned, LiftedBy, OnRings, Covers, Moved, AllMet, AllSmallest};
+ghost use Rattle.ranker.specs.Lifts.{rank_in, lifter_in, due_by, Met, Below, Owned, LiftedBy, OnRings, Covers, Moved, AllMet, AllSmallest};
 ghost use Rattle.ranker.specs.Loops.{Written};
 
 use crate::arcs::Arcs;
@@ -19,10 +20,10 @@ pub(crate) struct Lifting<'a> {
     arcs: Arcs<'a>,
     colour: OddColour,
     ranks: &'a mut [u16],
-    /// For each row above 0, the place of the arc that lifted it last.
-    by: [u32; MAX_ROWS],
+    /// For each row, the place of the arc that lifted it last, if any has.
+    by: [Option<u32>; MAX_ROWS],
     ghost rows: { length ranks.now ≡ arcs.rows },
-    ghost own: { Owned arcs.list.now ranks.now by },
+    ghost own: { Owned arcs.list.now ranks.now by } by { Prim.hlevel props },
     ghost lifted: { LiftedBy arcs.list.now (odd colour) ranks.now by },
 }
 
@@ -42,7 +43,7 @@ impl<'a> Lifting<'a> {
             arcs,
             colour,
             ranks,
-            by: [0; MAX_ROWS],
+            by: [None; MAX_ROWS],
         }
     }
 
@@ -75,8 +76,8 @@ impl<'a> Lifting<'a> {
         if due <= self.ranks[row] {
             return None;
         }
-        self.by[row] = k as u32;
         self.ranks[row] = due;
+        self.by[row] = Some(k as u32);
         Some(arc.from)
     }
 
@@ -102,12 +103,13 @@ impl<'a> Lifting<'a> {
         last
     }
 
-    /// The arc that lifted a row last, if its rank is above 0.
-    fn lifter(&self, row: u16) -> Passage
-        requires { (row < length self.now.ranks.now) × (0 < rank_in self.now.ranks.now row) }
-        ensures { result ≡ arc_at self.now.arcs.list.now (slice_index self.now.by row) }
+    /// The arc that lifted a row last; none if its rank is 0.
+    fn lifter(&self, row: u16) -> Option<Passage>
+        requires { row < length self.now.ranks.now }
+        ensures { result ≡ lifter_in self.now.arcs.list.now self.now.by row }
     {
-        self.arcs.list[self.by[row as usize] as usize]
+        let k = self.by[row as usize]?;
+        Some(self.arcs.list[k as usize])
     }
 
     /// Follows the arcs that lifted a row, and the next, for as many steps as there are rows: the row reached lies on a
@@ -118,10 +120,10 @@ impl<'a> Lifting<'a> {
     {
         let mut at = row;
         for _step in 0..self.ranks.len() {
-            if self.ranks[at as usize] == 0 {
+            let Some(arc) = self.lifter(at) else {
                 return None;
-            }
-            at = self.lifter(at).to;
+            };
+            at = arc.to;
         }
         Some(at)
     }
@@ -156,7 +158,7 @@ impl<'a> Lifting<'a> {
     {
         let mut at = row;
         for (k, pair) in losing.iter_mut().enumerate() {
-            let arc = self.lifter(at);
+            let Some(arc) = self.lifter(at) else { break };
             *pair = Pair {
                 row: at,
                 outcome: arc.outcome,

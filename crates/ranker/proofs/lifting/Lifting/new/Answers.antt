@@ -1,4 +1,4 @@
-use Rattle.std.proofs.Common.{◌≡◌, ℕ, ◌<◌, List, length, get_or, ap, ◌∙◌, arith}
+use Rattle.std.proofs.Common.{◌≡◌, ℕ, ◌<◌, List, length, get_or, None, Option, ap, ◌∙◌, arith}
 use Rattle.std.proofs.lemmas.List.{get_or-replicate}
 use Rattle.loops.proofs.Lifts.{lifted_none}
 use Rattle.ranker.specs.Lifts.{rank_in}
@@ -10,6 +10,6 @@ invariant_of-result c =
     ap (λ (x : List ℕ). get_or x s 0) (c.fill.ensures.after (λ y e. e)) ∙ get_or-replicate (length c.args.ranks.now) s 0 0 (omega (arith, c.fill.ensures.len)) in
     record {
       rows = c.fill.ensures.len ∙ c.requires;
-      own = λ s b h. absurd (omega (arith, zeros s b));
+      own = λ s b. rw (get_or-replicate {A = Option ℕ} 1024 s None None (omega (arith, c.fill.ensures.len, c.requires, c.args.arcs.small))) (zeros s b);
       lifted = λ g tells. (∣ lifted_none g _ _ _ (λ s b. zeros s (omega (arith, tells.size))) ∣₁);
     }

@@ -1,4 +1,4 @@
-use Rattle.std.proofs.Common.{◌≡◌, ℕ, ◌<◌, length, get_or, sym, ap, ◌∙◌, subst, arith, below_more}
+use Rattle.std.proofs.Common.{◌≡◌, ℕ, ◌<◌, length, None, Some, unwrap_or, sym, ap, ◌∙◌, subst, arith, below_more}
 use Rattle.std.proofs.Math.Logic.{∥∥₁_elim}
 use Rattle.std.specs.Coded.{le_prop}
 use Rattle.plan.specs.declared.passage.Passage.{Passage}
@@ -6,22 +6,24 @@ use Rattle.table.specs.Odd.{odd}
 use Rattle.loops.specs.Lifting.{Lifted, after, OnRing}
 use Rattle.loops.proofs.Rings.{after_more, most_steps, on_ring}
 use Rattle.ranker.specs.Arcs.{Told}
-use Rattle.ranker.specs.Lifts.{rank_in, pick_in}
-use Rattle.ranker.proofs.Raises.{arc_to, picks, leads}
+use Rattle.ranker.specs.Lifts.{rank_in, place_in, pick_in}
+use Rattle.ranker.proofs.Raises.{lifter_is, arc_to, picks, leads}
 use Rattle.ranker.proofs.lifting.Lifting.ring_from.Goals as goal
 
-pub returns-then-self-at-eq0 : goal.returns-then-self-at-eq0
-returns-then-self-at-eq0 c =
+pub returns-in_default : goal.returns-in_default
+returns-in_default c =
     let self = c.args.self.now in
     let ranks = self.ranks.now in
     let pick = pick_in self.arcs.list.now self.by in
+    let at = c.loop-step.at in
+    let zero = lifter_is self.arcs.list.now at (rank_in ranks at) (place_in self.by at) None (self.own at c.loop-step.invariant.0) (sym c.in_default.is ∙ c.lifter.ensures) in
     ∥∥₁_elim (rw self.rows self.arcs.told) le_prop
     (λ (t : Told (length ranks) self.arcs.list.now).
     let g = t.0 in
     let inv = c.loop-step.invariant.1 g t.1 in
     ∥∥₁_elim (self.lifted g t.1) le_prop
     (λ (l : Lifted g (odd self.colour) (rank_in ranks) pick).
-    omega (arith, most_steps g (odd self.colour) (rank_in ranks) pick t.1.closed l c.loop-step._step c.args.row (omega (arith, t.1.size)) inv.1, ap (rank_in ranks) inv.0)))
+    omega (arith, zero, most_steps g (odd self.colour) (rank_in ranks) pick t.1.closed l c.loop-step._step c.args.row (omega (arith, t.1.size)) inv.1, ap (rank_in ranks) inv.0)))
 
 pub loop-step-preserved : goal.loop-step-preserved
 loop-step-preserved c =
@@ -30,9 +32,10 @@ loop-step-preserved c =
     let ranks = self.ranks.now in
     let pick = pick_in arcs self.by in
     let at = c.loop-step.at in
-    let here : 0 < rank_in ranks at = omega arith in
-    let to-is = ap (λ (a : Passage). a.to) c.lifter-at.ensures in (
-      omega (arith, self.rows, to-is, arc_to self.arcs.rows arcs (get_or self.by at 0) self.arcs.told (self.own at c.loop-step.invariant.0 here).0),
+    let own = lifter_is arcs at (rank_in ranks at) (place_in self.by at) (Some c.in-Some.arc) (self.own at c.loop-step.invariant.0) (sym c.in-Some.is ∙ c.lifter.ensures) in
+    let here : 0 < rank_in ranks at = own.0 in
+    let to-is = ap (λ (a : Passage). a.to) own.2 in (
+      omega (arith, self.rows, to-is, arc_to self.arcs.rows arcs (unwrap_or (place_in self.by at) 0) self.arcs.told own.1),
       λ g tells.
           let inv = c.loop-step.invariant.1 g tells in
           let R : ℕ → Type 0 = λ x. 0 < rank_in ranks x in (
