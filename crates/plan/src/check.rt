@@ -1,5 +1,5 @@
 //! The check of a table with its ranks.
-ghost use Rattle.std.specs.Prelude.{◌≡◌, ◌<◌, ◌≤◌, true, [], length, is_ok, Decides};
+ghost use Rattle.std.specs.Prelude.{◌≡◌, ◌<◌, ◌≤◌, true, [], length, is_ok, IsTrue, ◌↔◌};
 ghost use Rattle.table.specs.Rows.{outcomes_of};
 ghost use Rattle.table.specs.Check.{numbered, verdict, is_own, place_faults, start_faults, outcome_faults, move_faults, outcomes_in, judged, checked};
 ghost use Rattle.table.specs.Accepts.{Accepts};
@@ -185,7 +185,7 @@ pub fn check<A: Arena>(
     ranks: &[u16],
 ) -> Result<Accepted, Fault>
     ensures answers { result ≡ checked (A.Arena.meaning arena.now) rows.now ranks.now }
-    ensures accepts { Decides (is_ok result) (Accepts (A.Arena.meaning arena.now) rows.now ranks.now) }
+    ensures accepts { IsTrue (is_ok result) ↔ Accepts (A.Arena.meaning arena.now) rows.now ranks.now }
 {
     survey(arena, rows, &mut RankTest { ranks })
 }

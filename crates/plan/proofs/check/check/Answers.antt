@@ -1,5 +1,4 @@
-use Rattle.std.proofs.Common.{◌≡◌, is_ok, ap, rules}
-use Rattle.std.proofs.lemmas.Bool.Decides.{Decides-at}
+use Rattle.std.proofs.Common.{◌≡◌, rules}
 use Rattle.table.specs.Check.{checked}
 use Rattle.table.proofs.Acceptance.{acceptance}
 use Rattle.plan.proofs.check.check.Goals as goal
@@ -10,4 +9,4 @@ returns-clause-accepts g c =
     let rows = c.args.rows.now in
     let ranks = c.args.ranks.now in
     let answered : c.survey.result ≡ checked m rows ranks = search rules in
-    Decides-at (is_ok c.survey.result) (is_ok (checked m rows ranks)) (ap is_ok answered) (acceptance m (g.met.A.Arena.lawful c.args.arena.now) rows ranks)
+    rw answered (acceptance m (g.met.A.Arena.lawful c.args.arena.now) rows ranks)
