@@ -34,7 +34,7 @@ module _ {P : Type 0} (m : Meaning P) (rows : List (Row P)) (rule : ℕ → ℕ 
       keeps ranks (length rows) ((graph_of m rows).colour s i) s ((graph_of m rows).to s i) ≡ true
   kept_all keep s i b k =
       let at = λ (p : ℕ) (o : p % 2 ≡ 1) (h : p ≤ 7). kept_for keep p s i o h b k in
-      and_from _ _ (at 1 refl (omega arith)) (and_from _ _ (at 3 refl (omega arith)) (and_from _ _ (at 5 refl (omega arith)) (at 7 refl (omega arith))))
+      and_from _ _ (at 1 refl (omega arith)) (and_from _ _ (at 3 refl (omega arith)) (and_from _ _ (at 5 refl (omega arith)) (and_from _ _ (at 7 refl (omega arith)) refl)))
 
   -- ranks that keep the rule are accepted
   pub kept_checked : length ranks ≡ 4 * length rows → KeepsAll m rows ranks → checked m rows ranks ≡ Ok (record { rows = length rows; outcomes = outcomes_in m rows })

@@ -62,10 +62,11 @@ keeps_odd ranks n c s t p e o b =
     let one = and_parts _ _ e in
     let three = and_parts _ _ one.1 in
     let five = and_parts _ _ three.1 in
+    let seven = and_parts _ _ five.1 in
     let F : ℕ → Type 0 = λ q. keeps_for ranks n q c s t ≡ true in
     ⊎_elim (λ (x : p ≡ 1). subst F (sym x) one.0)
     (⊎_elim (λ (x : p ≡ 3). subst F (sym x) three.0)
-    (⊎_elim (λ (x : p ≡ 5). subst F (sym x) five.0) (λ (x : p ≡ 7). subst F (sym x) five.1)))
+    (⊎_elim (λ (x : p ≡ 5). subst F (sym x) five.0) (λ (x : p ≡ 7). subst F (sym x) seven.0)))
     (odd p o b)
 
 some_value : {A : Type 0} (o : Option A) → is_some o ≡ true → (x : A) × (o ≡ Some x)

@@ -1,9 +1,14 @@
 -- The odd colours, and what there is for each of them.
-use Rattle.std.specs.Prelude.{ℕ}
+use Rattle.std.specs.Prelude.{ℕ, List, [], ◌∷◌}
 use Rattle.table.specs.declared.odd.OddColour.{OddColour}
 use Rattle.table.specs.declared.odd.OddColour.TheVariants.{One, Three, Five, Seven}
 use Rattle.table.specs.declared.odd.PerColour.{PerColour}
 
+-- all of them, from the smallest on
+abbrev pub all : List OddColour
+all = One ∷ Three ∷ Five ∷ Seven ∷ []
+
+-- the number of a colour
 abbrev pub odd : OddColour → ℕ
 odd One = 1
 odd Three = 3

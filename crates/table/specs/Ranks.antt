@@ -1,5 +1,7 @@
 -- Ranks and their rule.
-use Rattle.std.specs.Prelude.{ℕ, ◌+◌, ◌*◌, ◌/◌, Bool, cond, ◌&&◌, ◌||◌, List, ◌==◌, nat_le, nat_lt, slice_index}
+use Rattle.std.specs.Prelude.{ℕ, ◌+◌, ◌*◌, ◌/◌, Bool, cond, ◌||◌, List, ◌==◌, nat_le, nat_lt, slice_index}
+use Rattle.std.specs.List.{list_all}
+use Rattle.table.specs.Odd.{odd, all}
 
 -- The rank of row s for the odd colour p, of n rows: the ranks of colour 1 for all rows come first, then those of 3, 5 and 7.
 abbrev pub rank_of : List ℕ → ℕ → ℕ → ℕ → ℕ
@@ -12,4 +14,4 @@ keeps_for ranks n p c s t = nat_lt p c || cond (p == c) (nat_lt (rank_of ranks n
 
 -- the rule for all odd colours
 abbrev pub keeps : List ℕ → ℕ → ℕ → ℕ → ℕ → Bool
-keeps ranks n c s t = keeps_for ranks n 1 c s t && (keeps_for ranks n 3 c s t && (keeps_for ranks n 5 c s t && keeps_for ranks n 7 c s t))
+keeps ranks n c s t = list_all (λ colour. keeps_for ranks n (odd colour) c s t) all
