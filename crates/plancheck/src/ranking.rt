@@ -8,7 +8,6 @@ use ranker::ranker::rank_with;
 use ranker::scratch::Scratch;
 use std::io;
 use table::fault::Fault;
-use verdict::verdict::Verdict;
 
 /// One line for each of n rows, with its ranks for colours 1, 3, 5 and 7.
 fn write_ranks(rt: &HostRuntime, ranks: &[u16], n: usize) -> io::Result<()> {
@@ -43,7 +42,7 @@ pub(crate) fn rank_input(rt: &HostRuntime) -> io::Result<()> {
     let scratch = Scratch::take(heap)?;
     let mut case = match read_into(room, text.as_slice()) {
         Ok(case) => case,
-        Err(fault) => return tell(rt, Verdict::Unreadable(fault), text.as_slice()),
+        Err(fault) => return tell(rt, fault.into(), text.as_slice()),
     };
     let n = case.rows.len();
     let mut losing = vec![in heap; Pair { row: 0, outcome: 0 }; n]?;

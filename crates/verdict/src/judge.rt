@@ -13,6 +13,6 @@ pub fn judge(room: Room, text: &[u8]) -> Verdict
 {
     match read_into(room, text) {
         Ok(case) => check(&case.game, case.rows.as_slice(), case.ranks.as_slice()).into(),
-        Err(fault) => Verdict::Unreadable(fault),
+        Err(fault) => fault.into(),
     }
 }

@@ -4,5 +4,3 @@
 pub mod judge;
 pub mod lines;
 pub mod verdict;
-
-pub use refusals::refusal;

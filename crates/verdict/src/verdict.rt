@@ -1,5 +1,6 @@
 //! What is said of a case.
 ghost use Rattle.std.specs.Prelude.{◌≡◌};
+ghost use Rattle.verdict.specs.declared.verdict.Verdict.TheVariants.{Unreadable};
 ghost use Rattle.verdict.specs.Judged.{said};
 
 use casetext::fault::TextFault;
@@ -23,5 +24,14 @@ impl From<Result<Accepted, Fault>> for Verdict {
             Ok(accepted) => Verdict::Accepted(accepted),
             Err(fault) => Verdict::Refused(fault),
         }
+    }
+}
+
+// A text that cannot be read, as a verdict.
+impl From<TextFault> for Verdict {
+    ghost from_gives = { λ fault v. v ≡ Unreadable fault };
+
+    fn from(fault: TextFault) -> Verdict {
+        Verdict::Unreadable(fault)
     }
 }
