@@ -37,7 +37,7 @@ fn finish(draft: Draft) -> Result<Case, TextFault>
         edges: Capped { items: edges },
         rows: Capped { items: rows },
         ranks: Capped { items: ranks },
-        columns: Capped { items: mut columns },
+        mut columns,
     } = draft;
     fill_columns(&mut columns, ranks.as_slice());
     let ceilings = all_ceilings(ceilings.as_slice());
@@ -45,7 +45,7 @@ fn finish(draft: Draft) -> Result<Case, TextFault>
     Ok(Case {
         game,
         rows,
-        ranks: columns,
+        ranks: columns.items,
     })
 }
 
