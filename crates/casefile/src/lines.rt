@@ -1,5 +1,6 @@
 //! Reads the lines of a text, one after the other.
 ghost use Rattle.std.specs.Prelude.{◌≡◌, ◌+◌, ◌<◌, ◌≤◌, false, length, slice_index_or, Ok};
+ghost use Rattle.std.specs.Result.{result_err};
 ghost use Rattle.casetext.specs.Text.{lines, fields};
 ghost use Rattle.casetext.specs.declared.line.Form.TheVariants.{Owner};
 ghost use Rattle.casetext.specs.Fields.{wrong};
@@ -16,14 +17,14 @@ use casetext::fault::TextFault;
 use casetext::line::Kind;
 use refusals::refusal::Refuses;
 
-/// The first fault of a line of this kind, by number and then by field.
-fn line_fault(draft: &Draft, kind: Kind, line: &Line) -> Option<TextFault>
-    ensures { result ≡ line_fault line.now.number (forms (said draft.now) kind) (fields line.now.bytes.now) }
+/// Whether a line of this kind is without fault; else its first, by number and then by field.
+fn check_line(draft: &Draft, kind: Kind, line: &Line) -> Result<(), TextFault>
+    ensures { result_err result ≡ line_fault line.now.number (forms (said draft.now) kind) (fields line.now.bytes.now) }
 {
     let present = line.field_count();
     let needed = draft.fields_needed(kind);
     if present != needed {
-        return Some(TextFault::FieldCount {
+        return Err(TextFault::FieldCount {
             line: line.number,
             field: present.min(needed) as u32 + 1,
         });
@@ -33,6 +34,7 @@ fn line_fault(draft: &Draft, kind: Kind, line: &Line) -> Option<TextFault>
         .enumerate()
         .filter_map(|(i, field)| draft.field_fault(kind, line.number, i, field))
         .min_by_key(|fault| fault.number())
+        .map_or(Ok(()), Err)
 }
 
 impl Draft {
@@ -71,13 +73,9 @@ impl Draft {
     {
         let unknown = TextFault::UnknownKind { line: line.number };
         let kind = read_kind(line.field(0)).ok_or(unknown)?;
-        match line_fault(self, kind, line) {
-            Some(fault) => Err(fault),
-            None => {
-                self.add_line(kind, line);
-                Ok(())
-            }
-        }
+        check_line(self, kind, line)?;
+        self.add_line(kind, line);
+        Ok(())
     }
 
     /// Reads all lines, up to the first that has a fault.

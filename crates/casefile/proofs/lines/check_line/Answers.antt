@@ -1,15 +1,18 @@
-use Rattle.std.proofs.Common.{rules, of_calls, ◌≡◌, ◌+◌, ◌<◌, ◌^◌, false, length, eqb, refl, inl, ap, ◌∙◌, sym, arith}
+use Rattle.std.proofs.Common.{rules, of_calls, Option, Result, None, Some, Ok, Err, ◌≡◌, ◌+◌, ◌<◌, ◌^◌, false, length, eqb, refl, inl, ap, ◌∙◌, sym, arith}
+use Rattle.std.specs.Option.{MatchOption}
+use Rattle.std.specs.Result.{result_err}
 use Rattle.std.proofs.lemmas.Bool.{cond-true, eq-eqb}
 use Rattle.std.proofs.lemmas.List.FromFn.{get_or-enumerate_from, length-enumerate_from}
 use Rattle.std.proofs.lemmas.Iterator.Adapters.{serves_from_places}
 use Rattle.std.proofs.lemmas.Iterator.Consumers.{YieldsList-at, YieldsList-from_enumerate, YieldsList-from_filter_map}
 use Rattle.std.proofs.lemmas.Iterator.Splits.{YieldsList-from_slice_split}
 use borrow.Author.Tests.{tests}
+use Rattle.casetext.specs.declared.fault.TextFault.{TextFault}
 use Rattle.casetext.specs.Text.{fields}
 use Rattle.casetext.specs.Lines.{forms}
 use Rattle.casetext.proofs.Faults.{wrong_at, wrongs_are, least_from}
 use Rattle.casefile.specs.Draft.{said}
-use Rattle.casefile.proofs.lines.line_fault.Goals as goal
+use Rattle.casefile.proofs.lines.check_line.Goals as goal
 
 pub min_by_key-requires-clause-can : goal.min_by_key-requires-clause-can
 min_by_key-requires-clause-can c =
@@ -38,13 +41,19 @@ min_by_key-requires-clause-can c =
           search rules),
     )
 
+-- an error, if there is a fault
+erring : (o : Option TextFault) (r : Result (Unit {0}) TextFault) → MatchOption o (r ≡ Ok tt) (λ x. r ≡ Err x) → result_err r ≡ o
+erring None r e = ap result_err e
+erring (Some x) r e = ap result_err e
+
 pub returns : goal.returns
 returns c =
     let ms = forms (said c.args.draft.now) c.args.kind in
     let fs = fields c.args.line.now.bytes.now in
     let n = c.args.line.now.number in
     let full : length fs ≡ length ms = sym c.field_count-present.ensures ∙ c.if-present-needed.false ∙ c.fields_needed-needed.ensures.count in
-    least_from _ _ _ (λ x y. refl) (λ x k q h. search (rules, tests)) c.min_by_key.result c.min_by_key.ensures.ran
+    erring _ _ c.map_or.ensures
+    ∙ least_from _ _ _ (λ x y. refl) (λ x k q h. search (rules, tests)) c.min_by_key.result c.min_by_key.ensures.ran
     (YieldsList-from_filter_map _ (wrong_at n ms)
     (YieldsList-at c.filter_map.ensures.source
     (YieldsList-from_enumerate
