@@ -103,6 +103,20 @@ impl<'a> Lifting<'a> {
         last
     }
 
+    /// Sweeps over all arcs, from the first or from the last on.
+    fn sweep_all(&mut self, forward: bool) -> Option<u16>
+        requires { Below self.old.ranks.now }
+        ensures same { SameTask self.old self.new }
+        ensures moved { Moved (AllMet self.old.arcs.list.now (odd self.old.colour)) self.old.ranks.now self.new.ranks.now result }
+    {
+        let count = self.arcs.list.len();
+        if forward {
+            self.sweep(0..count)
+        } else {
+            self.sweep((0..count).rev())
+        }
+    }
+
     /// The arc that lifted a row last; none if its rank is 0.
     fn lifter(&self, row: u16) -> Option<Passage>
         requires { row < length self.now.ranks.now }
@@ -135,13 +149,8 @@ impl<'a> Lifting<'a> {
         ensures same { SameTask self.old self.new }
         ensures settled { MatchOption result (AllSmallest self.new.arcs.list.now (odd self.new.colour) self.new.ranks.now) (OnRings self.new.arcs.list.now self.new.ranks.now self.new.by) }
     {
-        let count = self.arcs.list.len();
         let mut forward = false;
-        while let Some(row) = if forward {
-            self.sweep(0..count)
-        } else {
-            self.sweep((0..count).rev())
-        } {
+        while let Some(row) = self.sweep_all(forward) {
             if let Some(ring) = self.ring_from(row) {
                 return Some(ring);
             }
