@@ -1,11 +1,14 @@
 //! What is wrong with single fields.
-ghost use Rattle.std.specs.Prelude.{◌≡◌};
-ghost use Rattle.casetext.specs.Fields.{all_letters, letters, wrong};
+ghost use Rattle.std.specs.Prelude.{◌≡◌, if◌then◌else◌, Some, None};
+ghost use Rattle.std.specs.Str.{bytes_eq};
+ghost use Rattle.arena.specs.declared.moves.Side.TheVariants.{Us, Them};
+ghost use Rattle.casetext.specs.Fields.{us, them, all_letters, letters, wrong};
 ghost use Rattle.casetext.specs.Lines.{kind};
 
 use crate::interval::read_interval;
 use crate::limits::{MAX_EDGE, MAX_LOCATION};
 use crate::text::read_number;
+use arena::moves::Side;
 use casetext::fault::TextFault;
 use casetext::line::{Form, Kind};
 use soundness::bounds::{is_bounded, is_inhabited};
@@ -19,6 +22,17 @@ pub(crate) fn read_kind(field: &[u8]) -> Option<Kind>
         b"loc" => Some(Kind::Loc),
         b"edge" => Some(Kind::Edge),
         b"row" => Some(Kind::Row),
+        _ => None,
+    }
+}
+
+/// Whose edge it is.
+pub(crate) fn read_side(field: &[u8]) -> Option<Side>
+    ensures { result ≡ (if bytes_eq field.now us then Some Us else (if bytes_eq field.now them then Some Them else None)) }
+{
+    match field {
+        b"us" => Some(Side::Us),
+        b"them" => Some(Side::Them),
         _ => None,
     }
 }
@@ -56,7 +70,7 @@ pub(crate) fn form_fault(line: u32, field: u32, form: Form, text: &[u8]) -> Opti
             Some(bounds) if is_inhabited(bounds) && is_bounded(bounds, ceiling) => None,
             Some(_) => Some(TextFault::BadInterval { line, field }),
         },
-        Form::Owner => (!matches!(text, b"us" | b"them")).then_some(out_of_form),
+        Form::Owner => read_side(text).is_none().then_some(out_of_form),
         Form::End { locations } => match read_number(text, 0, MAX_LOCATION) {
             None => Some(out_of_form),
             Some(n) if usize::from(n) < locations => None,

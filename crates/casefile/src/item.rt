@@ -1,8 +1,9 @@
 //! What a line without faults says.
 ghost use Rattle.std.specs.Prelude.{◌≡◌, ◌<◌, ◌≤◌};
 ghost use Rattle.casetext.specs.Text.{fields};
-ghost use Rattle.casetext.specs.Items.{bounds, zone, location, side, resets, edge, clock_at, clock_of, region, row, ranks};
+ghost use Rattle.casetext.specs.Items.{bounds, zone, location, resets, edge, clock_at, clock_of, region, row, ranks};
 
+use crate::form::read_side;
 use crate::interval::read_interval;
 use crate::limits::{
     MAX_CLASS, MAX_EDGE, MAX_LOCATION, MAX_PRIORITY, MAX_RANK, MAX_STEPS, MAX_WHOLE,
@@ -28,16 +29,6 @@ fn bounds_of(field: &[u8]) -> Bounds
     ensures { result ≡ bounds field.now }
 {
     read_interval(field).unwrap_or(EVERYWHERE)
-}
-
-/// Whose edge it is.
-fn side_of(field: &[u8]) -> Side
-    ensures { result ≡ side field.now }
-{
-    match field {
-        b"us" => Side::Us,
-        _ => Side::Them,
-    }
 }
 
 /// The clocks whose letters reset them.
@@ -71,7 +62,7 @@ impl Line<'_> {
         ensures { result ≡ edge (fields self.now.bytes.now) }
     {
         Edge {
-            side: side_of(self.field(1)),
+            side: read_side(self.field(1)).unwrap_or(Side::Them),
             from: self.small_value(2, MAX_LOCATION),
             to: self.small_value(3, MAX_LOCATION),
             resets: resets_of(self.field(4)),
