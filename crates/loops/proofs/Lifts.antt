@@ -15,25 +15,6 @@ lifted_none g p rank pick zeros =
       least = λ other k s b. omega (arith, zeros s b);
     }
 
--- an outcome that asks for more than the rank may be picked before the row is lifted to it
-pub lifted_repicked : (g : Graph) (p : ℕ) (rank pick pick' : ℕ → ℕ) → Lifted g p rank pick → (s i : ℕ) → i < g.count s → g.colour s i ≤ p → rank s < due g p rank s i →
-    pick' s ≡ i → ((r : ℕ) → (r ≡ s → ⊥) → pick' r ≡ pick r) → Lifted g p rank pick'
-lifted_repicked g p rank pick pick' was s i k c up picked others =
-    record {
-      since = was.since;
-      moment = was.moment;
-      past = was.past;
-      stands = λ r h pos.
-          ⊎_elim
-          (λ (e : r ≡ s).
-          let y : StandsBy g p rank was.since s i = record { there = k; small = c; most = omega arith; before = λ q. absurd (omega arith) } in
-          let G : ℕ → Type 0 = λ x. StandsBy g p rank was.since x (pick' x) in
-          subst G (sym e) (rw picked y))
-          (λ (e : r ≡ s → ⊥). rw (others r e) (was.stands r h pos))
-          (cases_eq r s);
-      least = was.least;
-    }
-
 module _ (g : Graph) (p : ℕ) (rank rank' pick pick' : ℕ → ℕ) (closed : Closed g) (was : Lifted g p rank pick) (s i : ℕ)
     (b : s < g.size) (k : i < g.count s) (c : g.colour s i ≤ p) (up : rank s < due g p rank s i)
     (here : rank' s ≡ due g p rank s i) (there : (r : ℕ) → (r ≡ s → ⊥) → rank' r ≡ rank r)
