@@ -53,6 +53,30 @@ pub trait Arena {
     fn next(&self, listing: &mut Self::Listing) -> Option<Outcome<Self::Position>>
         ensures { YieldsFirst (rest self.now) listing.old result listing.new };
 
+    /// How many outcomes our move has. An arena that knows without listing them gives its own answer.
+    fn count(&self, p: &Self::Position, m: Move) -> u16
+        ensures { result ≡ length ((meaning self.now).outcomes p.now m) }
+    {
+        let mut listing = self.list(p, m);
+        let mut listed = 0;
+        while let Some(_) = self.next(&mut listing) {
+            listed += 1;
+        }
+        listed
+    }
+
+    /// The outcome at a number, from 0. An arena that knows without listing those before it gives
+    /// its own answer.
+    fn outcome(&self, p: &Self::Position, m: Move, i: u16) -> Option<Outcome<Self::Position>>
+        ensures { result ≡ slice_get ((meaning self.now).outcomes p.now m) i }
+    {
+        let mut listing = self.list(p, m);
+        for _ in 0..i {
+            self.next(&mut listing)?;
+        }
+        self.next(&mut listing)
+    }
+
     ghost lawful: { (a : Self) → Lawful (meaning a) };
 
     /// All outcomes of our move, in order.
@@ -65,24 +89,6 @@ pub trait Arena {
             arena: self,
             listing: self.list(p, m),
         }
-    }
-
-    /// How many outcomes our move has.
-    final fn count(&self, p: &Self::Position, m: Move) -> u16
-    where
-        Self: Sized,
-        ensures { result ≡ length ((meaning self.now).outcomes p.now m) }
-    {
-        self.outcomes(p, m).count() as u16
-    }
-
-    /// The outcome at a number, from 0.
-    final fn outcome(&self, p: &Self::Position, m: Move, i: u16) -> Option<Outcome<Self::Position>>
-    where
-        Self: Sized,
-        ensures { result ≡ slice_get ((meaning self.now).outcomes p.now m) i }
-    {
-        self.outcomes(p, m).nth(i as usize)
     }
 }
 

@@ -17,7 +17,7 @@ impl<'a> Line<'a> {
     pub(crate) fn field_count(&self) -> usize
         ensures { result ≡ length (fields self.now.bytes.now) }
     {
-        self.bytes.split(|b| *b == b'\t').count()
+        self.bytes.iter().filter(|b| **b == b'\t').count() + 1
     }
 
     /// The i-th field from 0, which is empty where there is none.

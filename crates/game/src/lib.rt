@@ -4,12 +4,14 @@
 pub mod bounds;
 pub mod parts;
 
+ghost use Rattle.std.specs.Prelude.{◌≡◌};
 ghost use Rattle.game.specs.Timed.{Lawfully};
 ghost use Rattle.game.specs.Absent.{Absent, StayAbsent};
 ghost use Rattle.game.specs.Theorems.{Inhabited, Measured, Suited, Short, Starts, Listed, ByRegion, Beyond, ByEdge};
 
 /// The laws of timed games, each stated in specs/.
-pub fn games_stand()
+pub fn games_stand() -> u8
+    ensures answer { result ≡ 0 }
     ensures lawfully { Lawfully }
     ensures inhabited { Inhabited }
     ensures measured { Measured }
@@ -22,4 +24,6 @@ pub fn games_stand()
     ensures by_region { ByRegion }
     ensures beyond { Beyond }
     ensures by_edge { ByEdge }
-{}
+{
+    0
+}

@@ -1,9 +1,9 @@
 -- What a goal's form says of its states.
-use Rattle.std.specs.Prelude.{◌≡◌, ℕ, ◌<◌, ◌≤◌, true, ◌&&◌, length, nat_le, nat_lt, slice_index, Some}
+use Rattle.std.specs.Prelude.{◌≡◌, ℕ, ◌<◌, ◌≤◌, true, ◌&&◌, length, nat_le, nat_lt, slice_index, slice_index_or, Some}
 use Rattle.std.proofs.Common.{sym, subst, ⊎_elim, arith}
 use Rattle.std.specs.List.{list_all}
 use Rattle.std.specs.Option.{option_map_or}
-use Rattle.std.proofs.lemmas.List.{get_or_past}
+use Rattle.std.proofs.lemmas.List.{get_or-take, get_or_past}
 use Rattle.std.proofs.lemmas.List.Elements.{All-get_or}
 use Rattle.std.proofs.lemmas.List.Sums.{AllPass-from_list_all}
 use Rattle.std.proofs.lemmas.Option.{slice_get_cases}
@@ -31,12 +31,19 @@ module _ (g : Goal) where
   first_exists = lt-ltb 0 many some_state
 
   module _ (s : ℕ) (e : exists g s ≡ true) where
-    -- a state that exists is fit
+    within : s < many
+    within = ltb-true s many e
+
+    -- a state that exists stands in the array at its number
+    pub state_stands : (d : GoalState) → slice_index_or (states_of g) s d ≡ slice_index_or g.states s d
+    state_stands d = get_or-take g.count g.states s d (omega (arith, within, g.counted))
+
+    -- and is fit
     there : (x : GoalState) × (state_of g s ≡ Some x) × (fit many x ≡ true)
     there =
         ⊎_elim
         (λ f. (f.0, f.2, subst (λ x. fit many x ≡ true) f.3 (All-get_or (λ x. fit many x ≡ true) (states_of g) s f.0 f.1 (AllPass-from_list_all (fit many) (states_of g) states_fit))))
-        (λ f. absurd (omega (arith, f.0, ltb-true s many e)))
+        (λ f. absurd (omega (arith, f.0, within)))
         (slice_get_cases (states_of g) s).1
 
     abbrev here : GoalState

@@ -38,7 +38,7 @@ module _ {P : Type 0} (m : Meaning P) (ok : Lawful m) (g : Goal) where
     opened : (goal_meaning m g).outcomes p v ≡ lifted p v
     opened = by_state p v ∙ cond-true (exists g p.state) (lifted p v) [] e
 
-    as_many : length ((goal_meaning m g).outcomes p v) ≡ length (m.outcomes p.below v)
+    pub as_many : length ((goal_meaning m g).outcomes p v) ≡ length (m.outcomes p.below v)
     as_many = ap length opened ∙ length-map (m.outcomes p.below v) (raised m g p.state)
 
     pub by_number : (i : ℕ) (o : Option (Outcome P)) → slice_get (m.outcomes p.below v) i ≡ o → option_map (raised m g p.state) o ≡ slice_get ((goal_meaning m g).outcomes p v) i

@@ -123,6 +123,27 @@ impl<A: Arena> Arena for GoalArena<A> {
         self.goal.has_state(p.state) && self.below.legal(&p.below, m)
     }
 
+    fn count(&self, p: &GoalPosition<A::Position>, m: Move) -> u16 {
+        if self.goal.has_state(p.state) {
+            self.below.count(&p.below, m)
+        } else {
+            0
+        }
+    }
+
+    fn outcome(
+        &self,
+        p: &GoalPosition<A::Position>,
+        m: Move,
+        i: u16,
+    ) -> Option<Outcome<GoalPosition<A::Position>>> {
+        if !self.goal.has_state(p.state) {
+            return None;
+        }
+        let below = self.below.outcome(&p.below, m, i)?;
+        Some(self.raise(p.state, below))
+    }
+
     fn list(&self, p: &GoalPosition<A::Position>, m: Move) -> GoalListing<A::Listing> {
         GoalListing {
             below: self.below.list(&p.below, m),

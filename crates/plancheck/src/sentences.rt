@@ -3,7 +3,6 @@ use casetext::fault::TextFault;
 use refusals::refusal::Refuses;
 use std::fmt;
 use table::fault::Fault;
-use table::odd::OddColour;
 
 /// What is wrong with a text.
 #[derive(Clone, Copy)]
@@ -49,19 +48,19 @@ impl fmt::Display for TextSentence {
 #[derive(Clone, Copy)]
 struct LoopSentence {
     length: u16,
-    colour: OddColour,
+    colour: u8,
 }
 
 impl fmt::Display for LoopSentence {
     fn fmt<W: fmt::Write>(&self, f: &mut fmt::Formatter<W>) -> fmt::Result {
         let length = self.length;
-        if self.colour == OddColour::One {
+        if self.colour == 1 {
             return write!(
                 f,
                 "the other side can keep the plan in a loop of {length} rounds without a tick in which we move again and again: time stops, and we are to blame"
             );
         }
-        let priority = self.colour.number().saturating_sub(2);
+        let priority = self.colour.saturating_sub(2);
         write!(
             f,
             "the other side can keep the plan in a loop of {length} rounds in which time goes on and the largest priority is {priority}, which is odd"

@@ -19,10 +19,10 @@ pub record Written (g : Graph) (p : ℕ) (was : List Pair) (k : ℕ) (is : List 
 -- what the arcs come to for c: its smallest ranks, or a losing loop of it
 abbrev pub DraftedFor : Graph → OddColour → List Pair → Result Unit Fault → List ℕ → List Pair → Type 0
 DraftedFor g c was (Ok _) ranks is = Smallest g (odd c) (rank_in ranks)
-DraftedFor g c was (Err f) ranks is = (k : ℕ) × (f ≡ LosingLoop k c) × Written g (odd c) was k is
+DraftedFor g c was (Err f) ranks is = (k : ℕ) × (f ≡ LosingLoop k (odd c)) × Written g (odd c) was k is
 
 -- what they come to for n rows: the smallest ranks for each odd colour, or a losing loop whose largest colour is the
 -- smallest that a losing loop has
 abbrev pub Drafted : Graph → ℕ → List Pair → Result Unit Fault → List ℕ → List Pair → Type 0
 Drafted g n was (Ok _) draft is = (c : OddColour) → Smallest g (odd c) (rank_of draft n (odd c))
-Drafted g n was (Err f) draft is = (k : ℕ) × (c : OddColour) × (f ≡ LosingLoop k c) × Written g (odd c) was k is × ((q : ℕ) → q < odd c → NoLoop g q)
+Drafted g n was (Err f) draft is = (k : ℕ) × (c : OddColour) × (f ≡ LosingLoop k (odd c)) × Written g (odd c) was k is × ((q : ℕ) → q < odd c → NoLoop g q)

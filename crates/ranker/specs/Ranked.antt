@@ -38,7 +38,7 @@ module _ {P : Type 0} (m : Meaning P) (rows : List (Row P)) (ranks : List ℕ) (
   pub record Refutes (r : Result Accepted Fault) (ranks' : List ℕ) (losing' : List Pair) : Type 0 where
     pub length : ℕ
     pub colour : OddColour
-    pub answer : r ≡ Err (LosingLoop length colour)
+    pub answer : r ≡ Err (LosingLoop length (odd colour))
     pub written : Written (graph_of m rows) (odd colour) losing length losing'
     pub least : (p : ℕ) → p < odd colour → NoLoop (graph_of m rows) p
     pub rest : ranks' ≡ ranks

@@ -42,7 +42,7 @@ impl Arcs<'_> {
         match lifting.settle() {
             Some(row) => Err(Fault::LosingLoop {
                 length: lifting.write_ring(row, losing),
-                colour,
+                colour: colour.number() as u8,
             }),
             None => Ok(()),
         }

@@ -1,3 +1,4 @@
 pub mod Types
 pub mod Code
 pub mod Standing
+pub mod Tests

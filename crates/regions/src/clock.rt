@@ -1,5 +1,6 @@
 //! Ceilings, one clock's part in a region, and the classes of all.
 ghost use Rattle.std.specs.Prelude.{◌≡◌, ◌+◌, ◌≤◌, if◌then◌else◌, ◌==◌};
+ghost use Rattle.std.specs.List.{list_all};
 ghost use Rattle.clocks.specs.Regions.{resting, rising, leave, seen, upto, rank, ranked, top};
 ghost use Rattle.regions.specs.Types.{Ceilings};
 ghost use Rattle.regions.specs.Code.{part_of, tick_ceiling, parts, unceiled, within, ceiled, Small};
@@ -96,7 +97,7 @@ impl Ceilings {
     pub fn are_allowed(self) -> bool
         ensures { result ≡ ceiled self }
     {
-        self.map(|ceiling| ceiling <= HIGHEST_CEILING).all()
+        self.every(|ceiling| ceiling <= HIGHEST_CEILING)
     }
 
     /// The ceilings of all clocks, the tick clock's too.
@@ -118,11 +119,18 @@ impl Region {
             .map(|(ceiling, at)| Part { ceiling, at })
     }
 
+    /// Whether each clock can stand where it does under its ceiling.
+    pub(crate) fn is_within(self, ceilings: Ceilings) -> bool
+        ensures { result ≡ list_all within (parts ceilings self) }
+    {
+        self.parts(ceilings).every(|part| part.is_within())
+    }
+
     /// Whether some clock has this class.
     fn has_class(self, class: u8) -> bool
         ensures { result ≡ seen (unceiled self) class }
     {
-        self.map(|at| at.class == class).any()
+        self.some(|at| at.class == class)
     }
 
     /// The highest class of all clocks.

@@ -1,5 +1,7 @@
 //! One of something for each clock of a game.
-ghost use Rattle.std.specs.Prelude.{◌≡◌, ◌&&◌};
+ghost use Rattle.std.specs.Prelude.{◌≡◌, Bool, ◌&&◌, [], ◌∷◌};
+ghost use Rattle.std.specs.List.{list_all};
+ghost use Rattle.regions.specs.Tests.{Says};
 
 use crate::with_tick::WithTick;
 
@@ -54,6 +56,17 @@ impl<T: Copy> PerClock<T> {
             y: (self.y, other.y),
             z: (self.z, other.z),
         }
+    }
+
+    /// Whether the test holds of each. Those behind one of which it does not hold are not tested.
+    #[inline]
+    pub fn every<F: Fn(T) -> bool>(self, test: F) -> bool
+        requires x { F.pre test self.x }
+        requires y { F.pre test self.y }
+        requires z { F.pre test self.z }
+        ensures { (x y z : Bool) → Says (F.post test self.x) x → Says (F.post test self.y) y → Says (F.post test self.z) z → result ≡ list_all (λ b. b) (x ∷ y ∷ z ∷ []) }
+    {
+        test(self.x) && test(self.y) && test(self.z)
     }
 }
 

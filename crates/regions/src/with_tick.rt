@@ -1,5 +1,8 @@
 //! One of something for each clock of a game and for the tick clock.
-ghost use Rattle.std.specs.Prelude.{◌≡◌, ◌&&◌, ◌||◌, max};
+ghost use Rattle.std.specs.Prelude.{◌≡◌, Bool, ◌&&◌, ◌||◌, [], ◌∷◌, max};
+ghost use Rattle.std.specs.List.{list_all};
+ghost use Rattle.clocks.specs.Regions.{some};
+ghost use Rattle.regions.specs.Tests.{Says};
 
 use crate::per_clock::PerClock;
 
@@ -49,6 +52,30 @@ impl<T: Copy> WithTick<T> {
         self.without_tick()
             .zip(other.without_tick())
             .with_tick((self.tick, other.tick))
+    }
+
+    /// Whether the test holds of each. Those behind one of which it does not hold are not tested.
+    #[inline]
+    pub fn every<F: Fn(T) -> bool>(self, test: F) -> bool
+        requires x { F.pre test self.x }
+        requires y { F.pre test self.y }
+        requires z { F.pre test self.z }
+        requires tick { F.pre test self.tick }
+        ensures { (x y z tick : Bool) → Says (F.post test self.x) x → Says (F.post test self.y) y → Says (F.post test self.z) z → Says (F.post test self.tick) tick → result ≡ list_all (λ b. b) (x ∷ y ∷ z ∷ tick ∷ []) }
+    {
+        test(self.x) && test(self.y) && test(self.z) && test(self.tick)
+    }
+
+    /// Whether the test holds of some. Those behind one of which it holds are not tested.
+    #[inline]
+    pub fn some<F: Fn(T) -> bool>(self, test: F) -> bool
+        requires x { F.pre test self.x }
+        requires y { F.pre test self.y }
+        requires z { F.pre test self.z }
+        requires tick { F.pre test self.tick }
+        ensures { (x y z tick : Bool) → Says (F.post test self.x) x → Says (F.post test self.y) y → Says (F.post test self.z) z → Says (F.post test self.tick) tick → result ≡ some (λ b. b) (x ∷ y ∷ z ∷ tick ∷ []) }
+    {
+        test(self.x) || test(self.y) || test(self.z) || test(self.tick)
     }
 }
 

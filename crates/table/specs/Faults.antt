@@ -3,7 +3,6 @@ use Rattle.std.specs.Prelude.{ℕ}
 use Rattle.refusals.specs.declared.refusal.Refusal.{Refusal}
 use Rattle.table.specs.declared.fault.Fault.{Fault}
 use Rattle.table.specs.declared.fault.Fault.TheVariants.{TooManyRows, NotOwn, Repeated, NoStartRow, IllegalMove, NoRow, RankRule, LosingLoop, WrongLengths, NoRowHere, IllegalHere, NoOutcome, TooManyRounds}
-use Rattle.table.specs.Odd.{odd}
 
 abbrev pub number_of : Fault → ℕ
 number_of TooManyRows = 4
@@ -45,7 +44,7 @@ detail_of NoStartRow = 0
 detail_of (IllegalMove s) = 0
 detail_of (NoRow s i) = i
 detail_of (RankRule s i) = i
-detail_of (LosingLoop k c) = odd c
+detail_of (LosingLoop k c) = c
 detail_of WrongLengths = 0
 detail_of NoRowHere = 0
 detail_of IllegalHere = 0

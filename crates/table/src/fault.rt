@@ -1,7 +1,6 @@
 //! Why a table or a step is declined.
 ghost use Rattle.table.specs.Faults.{refusal_of};
 
-use crate::odd::OddColour;
 use refusals::refusal::Refuses;
 
 /// A refusal, with what it names: a row and an outcome, each numbered from 0, or a loop.
@@ -22,7 +21,7 @@ pub enum Fault {
     /// The ranks break their rule at the outcome.
     RankRule { row: u16, outcome: u16 },
     /// There is a losing loop of this length, whose largest colour is the smallest odd one that a loop has.
-    LosingLoop { length: u16, colour: OddColour },
+    LosingLoop { length: u16, colour: u8 },
     /// There are not four ranks for each row, or fewer pairs for a loop than rows.
     WrongLengths,
     /// The walk stands where no row is.
@@ -77,7 +76,7 @@ impl Refuses for Fault {
     fn detail(self) -> u32 {
         match self {
             Fault::NoRow { outcome, .. } | Fault::RankRule { outcome, .. } => outcome as u32,
-            Fault::LosingLoop { colour, .. } => colour.number() as u32,
+            Fault::LosingLoop { colour, .. } => colour as u32,
             Fault::TooManyRows
             | Fault::NotOwn { .. }
             | Fault::Repeated { .. }

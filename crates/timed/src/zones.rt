@@ -25,6 +25,5 @@ pub(crate) fn is_met(rows: Zone, clocks: Clocks) -> bool
     ensures { result ≡ holds (zone rows) (standing clocks) }
 {
     rows.zip(clocks.region().without_tick())
-        .map(|(row, clock)| interval_of(row).contains(clock))
-        .all()
+        .every(|(row, clock)| interval_of(row).contains(clock))
 }

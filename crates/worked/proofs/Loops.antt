@@ -54,7 +54,7 @@ smallest_odd Seven h = absurd (omega arith)
 
 module _ {P : Type 0} (m : Meaning P) (rows : List (Row P)) (x : Rounds (graph_of m rows)) (none : faults m rows any_round true ≡ []) where
   named : (ranks ranks' : List ℕ) (losing losing' : List Pair) (r : Result Accepted Fault) → length ranks ≡ 20 → 5 ≤ length losing →
-      Ranked m rows ranks losing (form_faults m rows ranks losing) r ranks' losing' → (k : ℕ) × (r ≡ Err (LosingLoop k One))
+      Ranked m rows ranks losing (form_faults m rows ranks losing) r ranks' losing' → (k : ℕ) × (r ≡ Err (LosingLoop k 1))
   named ranks ranks' losing losing' r four enough h =
       let five : length rows ≡ 5 = x.size in
       let fits : fitting m rows ranks losing ≡ true =
@@ -67,7 +67,7 @@ module _ {P : Type 0} (m : Meaning P) (rows : List (Row P)) (x : Rounds (graph_o
           | inr l ↦
               let one = q.written.losing.odd in
               let e = smallest_odd q.colour l in
-              (q.length, q.answer ∙ ap (λ c. Err (LosingLoop q.length c)) e)
+              (q.length, q.answer ∙ ap (λ c. Err (LosingLoop q.length (odd c))) e)
         ]
       ]
 

@@ -5,7 +5,6 @@ use Rattle.clocks.specs.Regions.{Clock, clock, part, region_of, waits}
 use Rattle.table.specs.declared.accepted.Accepted as answers
 use Rattle.table.specs.declared.fault.Fault.{Fault}
 use Rattle.table.specs.declared.fault.Fault.TheVariants.{NoStartRow, NoRow, RankRule, LosingLoop}
-use Rattle.table.specs.declared.odd.OddColour.TheVariants.{One}
 use Rattle.table.specs.Rows.{outcomes_of}
 use Rattle.loops.specs.declared.pair.Pair.{Pair}
 use Rattle.ranker.specs.Ranked as ranker
@@ -72,7 +71,7 @@ names_loop (Err f) = ⊥
 names_loop (Ok c) =
     (ranks ranks' : List ℕ) (losing losing' : List Pair) (r : Result answers.Accepted Fault) → length ranks ≡ 20 → 5 ≤ length losing
     → ranker.Ranked (timed_meaning c.game) c.rows ranks losing (ranker.form_faults (timed_meaning c.game) c.rows ranks losing) r ranks' losing'
-    → (k : ℕ) × (r ≡ Err (LosingLoop k One))
+    → (k : ℕ) × (r ≡ Err (LosingLoop k 1))
 
 abbrev pub Loops : Type 0
 Loops = names_loop (read_text blaming)

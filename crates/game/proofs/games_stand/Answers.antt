@@ -1,3 +1,4 @@
+use Rattle.std.proofs.Common.{refl}
 use Rattle.game.proofs.games_stand.Goals as goal
 use Rattle.game.proofs.Lawfuls.{lawfully}
 use Rattle.game.proofs.Readings.{inhabited_stand, measured, suited}
@@ -9,6 +10,7 @@ use Rattle.game.proofs.Listings.{listed, by_region, beyond, by_edge}
 pub returns : goal.returns
 returns c =
     record {
+      answer = refl;
       lawfully = lawfully;
       inhabited = inhabited_stand;
       measured = measured;

@@ -13,7 +13,7 @@ fn is_own(c: Ceilings, region: Region) -> bool
     ensures { result ≡ is_own (parts c region) }
 {
     let highest = region.highest_class();
-    region.parts(c).map(|part| part.is_within()).all() && region.classes_up_to(highest) == highest
+    region.is_within(c) && region.classes_up_to(highest) == highest
 }
 
 impl Clocks {
@@ -42,8 +42,7 @@ impl Clocks {
     {
         self.region
             .parts(self.ceilings)
-            .map(|part| part.is_resting())
-            .any()
+            .some(|part| part.is_resting())
     }
 
     /// Whether some clock is below its ceiling, at class 0.
@@ -52,8 +51,7 @@ impl Clocks {
     {
         self.region
             .parts(self.ceilings)
-            .map(|part| part.is_rising())
-            .any()
+            .some(|part| part.is_rising())
     }
 
     /// The region once the clocks at class 0 have left their whole parts.
